@@ -1,0 +1,4 @@
+pub mod Number
+pub mod Numeral
+pub mod Nibbles
+pub mod Parts

@@ -1,0 +1,4 @@
+pub mod Names
+pub mod Sheets
+pub mod Adding
+pub mod Listing

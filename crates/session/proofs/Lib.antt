@@ -1,0 +1,5 @@
+pub mod Grown
+pub mod Cut
+pub mod Told
+pub mod Taken
+pub mod Kept

@@ -1,0 +1,4 @@
+pub mod Replies
+pub mod Files
+pub mod Progress
+pub mod Soundness
