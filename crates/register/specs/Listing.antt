@@ -1,6 +1,6 @@
 -- The three lists: how each names its rows, how many it holds, and what it asks of a new row before all else.
 use Prim.Native.Nat.{ℕ}
-use mathlib.Core.Bool.{_&&_}
+use mathlib.Core.Bool.{Bool, _&&_}
 use mathlib.Core.List.{List, [], _∷_}
 use lib.Dec.{leb}
 use Rattle.refusal.specs.Checks.{Check}
@@ -27,8 +27,11 @@ abbrev pub mostSheets : ℕ
 mostSheets = 64
 
 -- offices are 1 to 4
+abbrev pub isOffice : ℕ → Bool
+isOffice number = leb 1 number && leb number 4
+
 abbrev pub officeChecks : ℕ → List Check
-officeChecks number = (leb 1 number && leb number 4, WrongOffice) ∷ []
+officeChecks number = (isOffice number, WrongOffice) ∷ []
 
 abbrev pub pathChecks : List ℕ → List Check
 pathChecks path = (isPath path, WrongLength) ∷ []

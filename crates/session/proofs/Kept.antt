@@ -1,14 +1,14 @@
 -- Lists stay sound, whatever the lines.
-use Prim.Native.Nat.{ℕ, _+_, _<_, _≤_}
+use Prim.Native.Nat.{ℕ, _<_}
 use native.Mathlib.Omega.{arith}
 use mathlib.Core.Path.{_≡_, refl, sym, _∙_, subst}
-use mathlib.Core.Bool.{Bool, true, false, cond, not, _&&_}
+use mathlib.Core.Bool.{Bool, true, false, cond, not}
 use mathlib.Core.List.{List, [], _∷_, _++_, map}
-use lib.Dec.{leb, ltb}
+use lib.Dec.{ltb}
 use lib.ListN.{length}
 use Rattle.std.proofs.shelf.Elements.{all-push}
 use Rattle.std.proofs.shelf.Lists.{length-map, length-push, map-push}
-use Rattle.std.proofs.shelf.Tests.{and-parts, both-ways, cond-true, leb-true, ltb-true}
+use Rattle.std.proofs.shelf.Tests.{both-ways, cond-true, ltb-true}
 use Rattle.std.specs.Options.{isSome}
 use Rattle.std.specs.declared.option.Option.{Option}
 use Rattle.std.specs.declared.option.Option.the-variants.{Some, None}
@@ -16,7 +16,7 @@ use Rattle.refusal.specs.Checks.{Check, firstRefused}
 use Rattle.refusal.specs.declared.Refusal.{Refusal}
 use Rattle.refusal.specs.declared.Refusal.the-variants.{AlreadyListed, ListFull, WrongLength, WrongOffice}
 use Rattle.register.specs.Adding.{newRow}
-use Rattle.register.specs.Listing.{accountName, officeChecks, officeName, pathChecks}
+use Rattle.register.specs.Listing.{accountName, isOffice, officeChecks, officeName, pathChecks}
 use Rattle.register.specs.Names.{Distinct, placeIn}
 use Rattle.register.specs.Sheets.{isPath}
 use Rattle.register.proofs.Appended.{distinct-push}
@@ -70,13 +70,8 @@ extended-sound name Within own row list None e fits h =
       limits = all-push Within (list .rows) row (h .limits) (fits (checks .0));
     }
 
-office-within : (number : ℕ) → firstRefused (officeChecks number) ≡ None → (1 ≤ number) × (number ≤ 4)
-office-within number e =
-    let both = and-parts (leb 1 number) (leb number 4) (holding (leb 1 number && leb number 4) None WrongOffice e .0) in
-    (leb-true 1 number (both .0), leb-true number 4 (both .1))
-
-path-within : (path : List ℕ) → firstRefused (pathChecks path) ≡ None → isPath path ≡ true
-path-within path e = holding (isPath path) None WrongLength e .0
+own-check : (within : Bool) (otherwise : Refusal) → firstRefused ((within, otherwise) ∷ []) ≡ None → within ≡ true
+own-check within otherwise e = holding within None otherwise e .0
 
 pub listed-sound : (s : State) (c : Command (List ℕ)) → Sound s → Sound (listed s c .after)
 listed-sound s (Scheme scheme) h = h
@@ -87,13 +82,13 @@ listed-sound s (Account number key) h = record {
 }
 listed-sound s (Office number key) h = record {
   accounts = h .accounts;
-  offices = extended-sound officeName _ (officeChecks number) record { number = number; key = key } (s .offices) _ refl (office-within number) (h .offices);
+  offices = extended-sound officeName _ (officeChecks number) record { number = number; key = key } (s .offices) _ refl (own-check (isOffice number) WrongOffice) (h .offices);
   sheets = h .sheets;
 }
 listed-sound s (Sheet path account cards) h = record {
   accounts = h .accounts;
   offices = h .offices;
-  sheets = extended-sound (λ l. l .path) _ (pathChecks path) record { path = path; account = account; cards = cards } (s .sheets) _ refl (path-within path) (h .sheets);
+  sheets = extended-sound (λ l. l .path) _ (pathChecks path) record { path = path; account = account; cards = cards } (s .sheets) _ refl (own-check (isPath path) WrongLength) (h .sheets);
 }
 
 -- the phase does not matter to the lists

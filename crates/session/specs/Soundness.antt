@@ -5,7 +5,7 @@ use mathlib.Core.List.{List, map}
 use mathlib.Core.Path.{_≡_}
 use lib.ListN.{length}
 use Rattle.std.specs.shelf.Lists.{All}
-use Rattle.register.specs.Listing.{accountName, officeName}
+use Rattle.register.specs.Listing.{accountName, isOffice, officeName}
 use Rattle.register.specs.Names.{Distinct}
 use Rattle.register.specs.Sheets.{isPath}
 use Rattle.session.specs.Files.{after}
@@ -17,10 +17,10 @@ pub record SoundList {X : Type 0} (name : X → List ℕ) (Within : X → Type 0
   pub few : length (list .rows) ≤ list .room
   pub limits : All Within (list .rows)
 
--- any account will do, an office is 1 to 4, and a path is one
+-- any account will do; an office has an office's number, and a sheet a path
 pub record Sound (s : State) : Type 0 where
   pub accounts : SoundList accountName (λ _. Unit {0}) (s .accounts)
-  pub offices : SoundList officeName (λ o. (1 ≤ o .number) × (o .number ≤ 4)) (s .offices)
+  pub offices : SoundList officeName (λ o. isOffice (o .number) ≡ true) (s .offices)
   pub sheets : SoundList (λ l. l .path) (λ l. isPath (l .path) ≡ true) (s .sheets)
 
 -- from a state that lines lead to, in memory of any size, comes one that is sound
