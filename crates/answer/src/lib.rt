@@ -1,4 +1,6 @@
 //! Answers to the lines of a command file, and the output line that reports each.
+#![tactic(auto)]
+
 pub mod line;
 
 use refusal::Refusal;

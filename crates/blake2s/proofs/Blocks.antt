@@ -1,7 +1,7 @@
 -- The blocks of a message, one at a time, and a block that goes before a message.
 use Rattle.std.proofs.Common.{◌≡◌, ℕ, zero, suc, ◌+◌, ◌-◌, ◌*◌, ◌%◌, ◌^◌, ◌<◌, Bool, true, false, List, ◌++◌, length, drop, replicate, sym, refl, ap, ◌∙◌, append-nil, add-one, arith}
 use Rattle.std.proofs.lemmas.List.{drop_at, drop-drop, length-append, take_at}
-use Rattle.bytes.specs.Laying.{filled}
+use Rattle.octets.specs.Laying.{filled}
 use Rattle.blake2s.specs.Compression.{compressed}
 use Rattle.blake2s.specs.Hashing.{absorbed, block_of, hashed_from, leading}
 

@@ -1,7 +1,7 @@
 -- The compression function of RFC 7693, section 3.2.
 use Rattle.std.specs.Prelude.{ℕ, zero, suc, ◌+◌, ◌-◌, ◌/◌, ◌%◌, ◌^◌, Bool, cond, List, [], ◌∷◌, map, bit_xor, slice_index, slice_index_or}
-use Rattle.bytes.specs.Words.{words_of}
-use Rattle.bytes.specs.declared.order.ByteOrder.TheVariants.{LowFirst}
+use Rattle.octets.specs.Words.{words_of}
+use Rattle.octets.specs.declared.order.ByteOrder.TheVariants.{LowFirst}
 use Rattle.blake2s.specs.Mixing.{mixed_at}
 use Rattle.blake2s.specs.Tables.{start_words, orders}
 

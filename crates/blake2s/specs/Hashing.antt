@@ -1,8 +1,8 @@
 -- The hash of a whole message: RFC 7693, section 3.3, with a result of 32 bytes.
 use Rattle.std.specs.Prelude.{ℕ, zero, suc, ◌+◌, ◌-◌, ◌*◌, ◌/◌, ◌%◌, ◌^◌, true, false, cond, List, [], ◌∷◌, ◌++◌, length, drop, ◌==◌, bit_xor, slice_index}
-use Rattle.bytes.specs.Laying.{filled}
-use Rattle.bytes.specs.Words.{bytes_of_words}
-use Rattle.bytes.specs.declared.order.ByteOrder.TheVariants.{LowFirst}
+use Rattle.octets.specs.Laying.{filled}
+use Rattle.octets.specs.Words.{bytes_of_words}
+use Rattle.octets.specs.declared.order.ByteOrder.TheVariants.{LowFirst}
 use Rattle.blake2s.specs.Compression.{compressed}
 use Rattle.blake2s.specs.Tables.{start_words}
 

@@ -1,6 +1,6 @@
 -- The mixing function of RFC 7693, section 3.1.
 use Rattle.std.specs.Prelude.{ℕ, List, bit_xor, slice_index, slice_set}
-use Rattle.bytes.specs.Words.{◌⊞◌, rotr}
+use Rattle.octets.specs.Words.{◌⊞◌, rotr}
 use Rattle.blake2s.specs.declared.mixing.Four.{Four}
 
 -- two words of the block mixed into four words of the state

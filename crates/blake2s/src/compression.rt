@@ -4,8 +4,8 @@ ghost use Rattle.blake2s.specs.Compression.{compressed, working_state};
 
 use crate::mixing::mix_rounds;
 use crate::tables::START;
-use bytes::order::ByteOrder;
-use bytes::words::load;
+use octets::order::ByteOrder;
+use octets::words::load;
 
 /// The low 32 bits of the counter.
 fn low(count: u64) -> u32

@@ -4,9 +4,9 @@ ghost use Rattle.blake2s.specs.Hashing.{absorbed, blake2s, hashed_from, started}
 
 use crate::compression::compress;
 use crate::tables::START;
-use bytes::block::block_at;
-use bytes::order::ByteOrder;
-use bytes::words::store;
+use octets::block::block_at;
+use octets::order::ByteOrder;
+use octets::words::store;
 
 /// The first words of a hash with a key of this length and a result of 32 bytes.
 fn start(key_length: u32) -> [u32; 8]

@@ -1,5 +1,7 @@
 //! Examples that no command file reaches: lists in memory that is shorter than their limit, answers with a place, comparing
 //! tags, and the functions for other languages.
+#![tactic(auto)]
+
 #[cfg(test)]
 mod codes;
 #[cfg(test)]

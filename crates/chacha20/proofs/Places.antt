@@ -1,9 +1,9 @@
 -- Places in a row, and what stands at them.
 use Rattle.std.proofs.Common.{◌≡◌, ℕ, zero, suc, ◌+◌, ◌<◌, ◌≤◌, List, [], ◌∷◌, ◌++◌, map, length, get_or, take, drop, sym, refl, ap, ◌∙◌, add-zero, arith}
 use Rattle.std.proofs.lemmas.List.{drop_more, length-drop, map_more, take_all, take-append-drop}
-use Rattle.bytes.specs.Words.{bytes_of_words}
-use Rattle.bytes.specs.declared.order.ByteOrder.TheVariants.{LowFirst}
-use Rattle.bytes.proofs.Stored.{bytes_append}
+use Rattle.octets.specs.Words.{bytes_of_words}
+use Rattle.octets.specs.declared.order.ByteOrder.TheVariants.{LowFirst}
+use Rattle.octets.proofs.Stored.{bytes_append}
 use Rattle.chacha20.specs.Block.{places}
 
 -- the n places from i on

@@ -1,7 +1,7 @@
 -- The ChaCha20 block function: RFC 8439, section 2.3.
 use Rattle.std.specs.Prelude.{ℕ, List, [], ◌∷◌, map, slice_index_or}
-use Rattle.bytes.specs.Words.{bytes_of_words, word_at, ◌⊞◌}
-use Rattle.bytes.specs.declared.order.ByteOrder.TheVariants.{LowFirst}
+use Rattle.octets.specs.Words.{bytes_of_words, word_at, ◌⊞◌}
+use Rattle.octets.specs.declared.order.ByteOrder.TheVariants.{LowFirst}
 use Rattle.chacha20.specs.Rounds.{double_rounds}
 
 -- the state that the rounds start from: four constants, eight words of key, the counter, three words of nonce

@@ -1,6 +1,6 @@
 -- The rounds of ChaCha20: RFC 8439, sections 2.1 to 2.3.
 use Rattle.std.specs.Prelude.{ℕ, zero, suc, List, bit_xor, slice_index, slice_set}
-use Rattle.bytes.specs.Words.{◌⊞◌, rotl}
+use Rattle.octets.specs.Words.{◌⊞◌, rotl}
 use Rattle.chacha20.specs.declared.rounds.Four.{Four}
 
 -- the quarter round

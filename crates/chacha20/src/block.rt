@@ -1,13 +1,13 @@
 //! The block function: 64 bytes of key stream.
 ghost use Rattle.std.specs.Prelude.{◌≡◌, ◌+◌, ◌<◌, length};
-ghost use Rattle.bytes.specs.Words.{bytes_of_words, word_at};
-ghost use Rattle.bytes.specs.declared.order.ByteOrder.TheVariants.{LowFirst};
+ghost use Rattle.octets.specs.Words.{bytes_of_words, word_at};
+ghost use Rattle.octets.specs.declared.order.ByteOrder.TheVariants.{LowFirst};
 ghost use Rattle.chacha20.specs.Block.{chacha20, mixed_words, start_words};
 
 use crate::rounds::twenty_rounds;
-use bytes::laying::lay;
-use bytes::order::ByteOrder;
-use bytes::words::store;
+use octets::laying::lay;
+use octets::order::ByteOrder;
+use octets::words::store;
 
 /// The word whose bytes begin at the place `at`.
 fn word_at(bytes: &[u8], at: usize) -> u32

@@ -2,8 +2,8 @@
 use Rattle.std.specs.Prelude.{◌≡◌, ℕ, List, length, replicate}
 use Rattle.std.proofs.Common.{◌∙◌, arith}
 use Rattle.std.proofs.lemmas.List.{length-take-le}
-use Rattle.bytes.specs.Masks.{masked}
-use Rattle.bytes.proofs.Unmasked.{length-masked, masked_twice}
+use Rattle.octets.specs.Masks.{masked}
+use Rattle.octets.proofs.Unmasked.{length-masked, masked_twice}
 use Rattle.chacha20.specs.Block.{chacha20}
 use Rattle.chacha20.proofs.Length.{length-chacha20}
 use Rattle.cipher.specs.Streams.{chacha_stream}

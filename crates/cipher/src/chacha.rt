@@ -1,13 +1,13 @@
 //! The cipher from ChaCha20.
 ghost use Rattle.std.specs.Prelude.{◌≡◌};
-ghost use Rattle.bytes.specs.Masks.{masked};
+ghost use Rattle.octets.specs.Masks.{masked};
 ghost use Rattle.cipher.specs.Streams.{chacha_stream};
 ghost use Rattle.cipher.specs.Masked.{chacha_sized, mask_back, mask_sized};
 
 use crate::Cipher;
-use bytes::laying::lay;
-use bytes::mask::xor;
 use chacha20::block::block;
+use octets::laying::lay;
+use octets::mask::xor;
 
 /// Exclusive or with the first 32 bytes of the ChaCha20 block with counter 0 and a nonce of zeros. A key serves for one text.
 #[derive(Clone, Copy)]

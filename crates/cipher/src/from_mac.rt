@@ -1,12 +1,12 @@
 //! The cipher from any message authentication code.
 ghost use Rattle.std.specs.Prelude.{◌≡◌, [], ◌∷◌};
-ghost use Rattle.bytes.specs.Masks.{masked};
+ghost use Rattle.octets.specs.Masks.{masked};
 ghost use Rattle.cipher.specs.Streams.{tag_stream};
 ghost use Rattle.cipher.specs.Masked.{mask_back, mask_sized};
 
 use crate::Cipher;
-use bytes::mask::xor;
 use mac::Mac;
+use octets::mask::xor;
 
 /// Exclusive or with the tag of the one-byte message 07. A key serves for one text.
 pub struct MacCipher<M: Mac> {

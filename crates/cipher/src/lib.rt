@@ -1,5 +1,7 @@
 //! Ciphers of 32 bytes under a key of 32 bytes: what the box asks of one, one from ChaCha20, and one from any message
 //! authentication code.
+#![tactic(auto)]
+
 ghost use Rattle.std.specs.Prelude.{◌≡◌, ℕ, List, length};
 
 pub mod chacha;

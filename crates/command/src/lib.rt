@@ -1,4 +1,6 @@
 //! The lines of a command file: cutting them out of its bytes, and reading the command that each spells.
+#![tactic(auto)]
+
 pub mod line;
 pub mod reading;
 

@@ -1,8 +1,10 @@
 //! Functions of the box for other languages, on numbers and bytes. Where a call can be refused, its answer is 0 or the number
 //! of the refusal, and a refusal leaves `out` as it was.
+#![tactic(auto)]
+
 ghost use Rattle.std.specs.Prelude.{◌≡◌};
 ghost use Rattle.blake2s.specs.Hashing.{blake2s};
-ghost use Rattle.bytes.specs.Masks.{masked};
+ghost use Rattle.octets.specs.Masks.{masked};
 ghost use Rattle.cipher.specs.Streams.{chacha_stream};
 ghost use Rattle.exports.specs.Answers.{answer_of, result_of};
 ghost use Rattle.hmac.specs.Hmac.{hmac_of};

@@ -1,6 +1,6 @@
 -- HMAC: RFC 2104, section 2, for hashes with blocks of 64 bytes and keys of at most 64 bytes.
 use Rattle.std.specs.Prelude.{ℕ, List, ◌++◌, map, bit_xor}
-use Rattle.bytes.specs.Laying.{filled}
+use Rattle.octets.specs.Laying.{filled}
 
 -- the key filled up to a block with zeros, exclusive-or this byte at every place
 abbrev pub key_pad : List ℕ → ℕ → List ℕ

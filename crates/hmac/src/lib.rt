@@ -1,8 +1,10 @@
 //! HMAC (RFC 2104), over any hash that takes its message in blocks of 64 bytes and gives 32.
+#![tactic(auto)]
+
 ghost use Rattle.std.specs.Prelude.{◌≡◌, ℕ, List, ◌++◌};
 ghost use Rattle.hmac.specs.Hmac.{hmac_of, key_pad};
 
-use bytes::block::block_at;
+use octets::block::block_at;
 
 /// A hash that takes its message in blocks of 64 bytes and gives 32.
 pub trait BlockHash {

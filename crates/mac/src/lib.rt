@@ -1,4 +1,6 @@
 //! Message authentication codes: what the box asks of one, and how two tags are compared.
+#![tactic(auto)]
+
 ghost use Rattle.std.specs.Prelude.{◌≡◌, ℕ, ◌≤◌, List, length};
 ghost use Rattle.mac.specs.Tagging.{tagged};
 

@@ -1,6 +1,8 @@
 //! The numbered refusals: every reason for which the box turns a call down.
 //!
 //! A call that refuses changes nothing. `docs/REFUSALS.md` has the table with an example for each number.
+#![tactic(auto)]
+
 ghost use Rattle.std.specs.Prelude.{◌≡◌};
 ghost use Rattle.refusal.specs.Numbers.{number_of, place_of};
 

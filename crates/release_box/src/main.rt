@@ -1,4 +1,6 @@
 //! The release box's program: reads a command file from standard input, and answers each line on standard output.
+#![tactic(auto)]
+
 use answer::line::OutputLine;
 use register::rows::{Account, Office, Sheet};
 use session::run::Run;

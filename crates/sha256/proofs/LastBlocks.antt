@@ -1,8 +1,8 @@
 -- The last blocks of a message: what is left of it, the bit that follows, zeros, and the length.
 use Rattle.std.proofs.Common.{◌≡◌, ℕ, suc, ◌+◌, ◌-◌, ◌*◌, ◌/◌, ◌%◌, ◌^◌, ◌<◌, ◌≤◌, List, [], ◌∷◌, ◌++◌, length, take, drop, replicate, sym, ap, ◌∙◌, append_assoc, arith}
 use Rattle.std.proofs.lemmas.List.{drop-append-le, drop_at, drop-drop, length-append, length-drop, length-replicate, replicate-append-replicate, take_all, take_at}
-use Rattle.bytes.specs.Laying.{filled}
-use Rattle.bytes.proofs.Filled.{filled_few, length-filled, take-filled}
+use Rattle.octets.specs.Laying.{filled}
+use Rattle.octets.proofs.Filled.{filled_few, length-filled, take-filled}
 use Rattle.sha256.specs.Compression.{compressed}
 use Rattle.sha256.specs.Hashing.{absorbed, absorbed_all, length_bytes, padding}
 use Rattle.sha256.specs.Blocks.{absorbed_after, absorbed_front, absorbed_more}

@@ -2,8 +2,8 @@
 use Rattle.std.specs.Prelude.{◌≡◌, ℕ, zero, suc, ◌+◌, ◌*◌, ◌/◌, ◌≤◌, List, ◌++◌, length, take, drop, refl}
 use Rattle.std.proofs.Common.{sym, ◌∙◌, ap, add-one, arith}
 use Rattle.std.proofs.lemmas.List.{drop-append-le, drop_at, drop-drop, length-drop, take-append-le, take_at}
-use Rattle.bytes.specs.declared.order.ByteOrder.TheVariants.{HighFirst}
-use Rattle.bytes.proofs.Stored.{length-bytes}
+use Rattle.octets.specs.declared.order.ByteOrder.TheVariants.{HighFirst}
+use Rattle.octets.proofs.Stored.{length-bytes}
 use Rattle.sha256.specs.Compression.{compressed}
 use Rattle.sha256.specs.Hashing.{absorbed, absorbed_all, padding, sha256}
 use Rattle.sha256.specs.Tables.{start_words}

@@ -1,7 +1,7 @@
 -- One block into the hash's words: FIPS 180-4, section 6.2.2.
 use Rattle.std.specs.Prelude.{ℕ, zero, suc, ◌+◌, List, [], ◌∷◌, ◌++◌, map, slice_index, slice_index_or}
-use Rattle.bytes.specs.Words.{◌⊞◌, words_of}
-use Rattle.bytes.specs.declared.order.ByteOrder.TheVariants.{HighFirst}
+use Rattle.octets.specs.Words.{◌⊞◌, words_of}
+use Rattle.octets.specs.declared.order.ByteOrder.TheVariants.{HighFirst}
 use Rattle.sha256.specs.Functions.{ch, maj, big_sigma0, big_sigma1, small_sigma0, small_sigma1}
 use Rattle.sha256.specs.Tables.{round_constants}
 

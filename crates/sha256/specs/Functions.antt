@@ -1,6 +1,6 @@
 -- The logical functions of FIPS 180-4, section 4.1.2.
 use Rattle.std.specs.Prelude.{ℕ, ◌-◌, ◌/◌, ◌^◌, bit_and, bit_xor}
-use Rattle.bytes.specs.Words.{rotr}
+use Rattle.octets.specs.Words.{rotr}
 
 abbrev pub ch : ℕ → ℕ → ℕ → ℕ
 ch x y z = bit_xor (bit_and x y) (bit_and (2 ^ 32 - 1 - x) z)

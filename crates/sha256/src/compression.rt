@@ -6,8 +6,8 @@ ghost use Rattle.sha256.specs.Tables.{round_constants};
 
 use crate::schedule::schedule;
 use crate::tables::ROUND_CONSTANTS;
-use bytes::order::ByteOrder;
-use bytes::words::load;
+use octets::order::ByteOrder;
+use octets::words::load;
 
 /// Each bit of `y` where that of `x` is set, and of `z` where it is not.
 fn choose(x: u32, y: u32, z: u32) -> u32

@@ -6,10 +6,10 @@ ghost use Rattle.sha256.specs.Tables.{start_words};
 use crate::compression::compress;
 use crate::padding::{mark_end, with_length};
 use crate::tables::START;
-use bytes::block::block_at;
-use bytes::order::ByteOrder;
-use bytes::words::store;
 use hmac::BlockHash;
+use octets::block::block_at;
+use octets::order::ByteOrder;
+use octets::words::store;
 
 /// The words after the first `blocks` blocks of the message.
 fn absorb(h: [u32; 8], message: &[u8], blocks: usize) -> [u32; 8]

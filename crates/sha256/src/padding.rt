@@ -1,10 +1,10 @@
 //! The end of a message: the bit that follows it, and its length.
 ghost use Rattle.std.specs.Prelude.{◌≡◌, ◌-◌, ◌*◌, ◌/◌, ◌<◌, ◌≤◌, [], ◌∷◌, ◌++◌, length, take, drop};
-ghost use Rattle.bytes.specs.Laying.{filled};
+ghost use Rattle.octets.specs.Laying.{filled};
 ghost use Rattle.sha256.specs.Hashing.{length_bytes};
 
-use bytes::block::block_at;
-use bytes::laying::lay;
+use octets::block::block_at;
+use octets::laying::lay;
 
 /// The last bytes of a message, from `at` on, and a byte behind them, filled up with zeros to a block.
 fn followed_by(message: &[u8], at: usize, byte: u8) -> [u8; 64]

@@ -1,4 +1,6 @@
 //! Worked examples of the standards, proved of the definitions that the contracts of the hashes, codes and ciphers cite.
+#![tactic(auto)]
+
 ghost use Rattle.std.specs.Prelude.{◌≡◌};
 ghost use Rattle.standards.specs.Examples.{WorkedExamples};
 

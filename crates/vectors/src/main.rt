@@ -1,6 +1,8 @@
 //! Runs vectors through the box's hashes, codes and ciphers: a line of standard input names a function and its arguments, a
 //! line of standard output is its result. `tools/make_vectors.py` writes the lines and, from other implementations, the
 //! results.
+#![tactic(auto)]
+
 use std::io::{BufRead, BufReader, BufWriter, Write};
 
 mod message;

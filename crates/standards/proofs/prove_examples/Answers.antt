@@ -1,5 +1,5 @@
 use mathlib.Core.Path.{refl}
-use Rattle.bytes.specs.Words.{words_of}
+use Rattle.octets.specs.Words.{words_of}
 use Rattle.blake2s.specs.Compression.{compressed as blake2s-compressed, mixed_rounds}
 use Rattle.blake2s.specs.Hashing.{absorbed as blake2s-absorbed}
 use Rattle.blake2s.specs.Mixing.{mixed_at}

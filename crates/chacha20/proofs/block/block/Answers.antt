@@ -1,6 +1,6 @@
 use Rattle.std.proofs.Common.{ap, ◌∙◌}
-use Rattle.bytes.specs.Words.{bytes_of_words}
-use Rattle.bytes.specs.declared.order.ByteOrder.TheVariants.{LowFirst}
+use Rattle.octets.specs.Words.{bytes_of_words}
+use Rattle.octets.specs.declared.order.ByteOrder.TheVariants.{LowFirst}
 use Rattle.chacha20.specs.Block.{mixed_words}
 use Rattle.chacha20.proofs.block.block.Goals as goal
 

@@ -1,6 +1,6 @@
 use Rattle.std.proofs.Common.{◌≡◌, ℕ, List, [], ◌∷◌, ◌++◌, map, get_or, take, sym, ap, ◌∙◌, arith}
 use Rattle.std.proofs.lemmas.List.{length-set, take_all, take_more_set}
-use Rattle.bytes.specs.Words.{◌⊞◌}
+use Rattle.octets.specs.Words.{◌⊞◌}
 use Rattle.chacha20.specs.Block.{mixed_words, places}
 use Rattle.chacha20.proofs.Places.{places_more}
 use Rattle.chacha20.proofs.block.mixed_words.Goals as goal

@@ -1,5 +1,5 @@
 use Rattle.std.proofs.Common.{◌≡◌, map, length, get_or, take}
-use Rattle.bytes.specs.Words.{◌⊞◌}
+use Rattle.octets.specs.Words.{◌⊞◌}
 use Rattle.chacha20.specs.Block.{places}
 use Rattle.chacha20.proofs.block.mixed_words.Given as goal
 

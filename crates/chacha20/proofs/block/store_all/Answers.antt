@@ -1,5 +1,5 @@
 use Rattle.std.proofs.Common.{◌≡◌, ℕ, List, ◌++◌, length, take, replicate, ap, ◌∙◌, arith}
-use Rattle.bytes.proofs.Laid.{laid_last, take-laid}
+use Rattle.octets.proofs.Laid.{laid_last, take-laid}
 use Rattle.chacha20.proofs.Places.{halves}
 use Rattle.chacha20.proofs.block.store_all.Goals as goal
 

@@ -1,6 +1,6 @@
 use Rattle.std.proofs.Common.{◌≡◌, ◌*◌, ◌≤◌, length, take, drop, sym, refl, ap, ◌∙◌, arith}
 use Rattle.std.proofs.lemmas.List.{length-drop}
-use Rattle.bytes.proofs.Filled.{filled_whole}
+use Rattle.octets.proofs.Filled.{filled_whole}
 use Rattle.sha256.specs.Compression.{compressed}
 use Rattle.sha256.specs.Hashing.{absorbed}
 use Rattle.sha256.specs.Blocks.{absorbed_more}

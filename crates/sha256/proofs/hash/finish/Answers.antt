@@ -1,5 +1,5 @@
 use Rattle.std.proofs.Common.{◌≡◌, ℕ, ◌*◌, ◌/◌, List, [], ◌∷◌, ◌++◌, length, take, drop, replicate, sym, ap, ◌∙◌}
-use Rattle.bytes.specs.Laying.{filled}
+use Rattle.octets.specs.Laying.{filled}
 use Rattle.sha256.specs.Compression.{compressed}
 use Rattle.sha256.specs.Hashing.{length_bytes}
 use Rattle.sha256.proofs.LastBlocks.{padded_long, padded_short}

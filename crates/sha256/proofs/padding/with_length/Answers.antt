@@ -1,6 +1,6 @@
 use Rattle.std.proofs.Common.{ap, ◌∙◌, rules}
-use Rattle.bytes.specs.Laying.{laid}
-use Rattle.bytes.proofs.Laid.{laid_last}
+use Rattle.octets.specs.Laying.{laid}
+use Rattle.octets.proofs.Laid.{laid_last}
 use Rattle.sha256.specs.Hashing.{length_bytes}
 use Rattle.sha256.proofs.padding.with_length.Goals as goal
 

@@ -1,0 +1,6 @@
+use Rattle.std.proofs.Common.{◌≡◌, ◌*◌, length, take}
+use Rattle.octets.specs.Words.{bytes_of_words}
+use Rattle.octets.proofs.words.store.Given as goal
+
+abbrev pub invariant-loop-i : goal.invariant-loop-i
+invariant-loop-i l = (length l.bytes ≡ 32) × (take (4 * l.i) l.bytes ≡ bytes_of_words l.order (take l.i l.words))
