@@ -1,6 +1,6 @@
 -- What holds of the lists after any lines.
 use Rattle.std.specs.Prelude.{◌≡◌, ℕ, ◌≤◌, true, List, map, length}
-use Rattle.std.specs.List.{AllByRecursion as All}
+use Rattle.std.specs.List.{AllByRecursion}
 use Rattle.register.specs.Listing.{account_name, is_office, office_name}
 use Rattle.register.specs.Names.{Distinct}
 use Rattle.register.specs.Sheets.{is_path}
@@ -11,7 +11,7 @@ use Rattle.session.specs.Replies.{Rows, State, fresh}
 pub record SoundList {X : Type 0} (name : X → List ℕ) (Within : X → Type 0) (list : Rows X) : Type 0 where
   pub distinct : Distinct (map name list.rows)
   pub few : length list.rows ≤ list.room
-  pub limits : All Within list.rows
+  pub limits : AllByRecursion Within list.rows
 
 -- any account will do; an office has an office's number, and a sheet a path
 pub record Sound (s : State) : Type 0 where

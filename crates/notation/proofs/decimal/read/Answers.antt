@@ -4,17 +4,17 @@ use Rattle.std.proofs.lemmas.Option.{MatchOption-from_none}
 use Rattle.notation.proofs.Number.{rest, rest_all, rest_more, rest_ends}
 use Rattle.notation.proofs.decimal.read.Goals as goal
 
-pub returns-in-err-n : goal.returns-in-err-n
-returns-in-err-n c =
-    let e = rest_ends c.args.most c.loop-digit.n c.args.digits.now c.loop-digit.digit-index c.loop-digit-test.true c.in-err-n.ensures in
+pub returns-in_err-n : goal.returns-in_err-n
+returns-in_err-n c =
+    let e = rest_ends c.args.most c.loop-digit.n c.args.digits.now c.loop-digit.digit-index c.loop-digit-test.true c.in_err-n.ensures in
     record {
-      value = c.from-residual.ensures ∙ (sym e ∙ c.loop-digit.invariant.1);
-      bound = MatchOption-from_none _ (λ n. n ≤ c.args.most) c.from-residual.ensures;
+      value = c.from_residual.ensures ∙ (sym e ∙ c.loop-digit.invariant.1);
+      bound = MatchOption-from_none _ (λ n. n ≤ c.args.most) c.from_residual.ensures;
     }
 
 pub loop-digit-preserved : goal.loop-digit-preserved
 loop-digit-preserved c =
-    let p = rest_more c.args.most c.loop-digit.n c.in-ok-n.n c.args.digits.now c.loop-digit.digit-index c.loop-digit-test.true c.in-ok-n.ensures in
+    let p = rest_more c.args.most c.loop-digit.n c.in_ok-n.n c.args.digits.now c.loop-digit.digit-index c.loop-digit-test.true c.in_ok-n.ensures in
     (p.0, sym p.1 ∙ c.loop-digit.invariant.1)
 
 pub returns : goal.returns

@@ -3,8 +3,8 @@ use Rattle.std.proofs.lemmas.List.{length-set}
 use Rattle.notation.proofs.Numeral.{written_none, written_more, written_all, written_behind}
 use Rattle.notation.proofs.decimal.write.Goals as goal
 
-pub overflow-sub-start-in-loop-rest : goal.overflow-sub-start-in-loop-rest
-overflow-sub-start-in-loop-rest c =
+pub overflow_sub-start-in-loop-rest : goal.overflow_sub-start-in-loop-rest
+overflow_sub-start-in-loop-rest c =
     (written_more c.args.number c.loop-rest.rest c.loop-rest.start c.loop-rest.out (omega arith) (omega arith) (omega arith) (omega arith) (omega arith)).0
 
 pub loop-rest-preserved : goal.loop-rest-preserved

@@ -14,10 +14,10 @@ pub returns-then-end-rest : goal.returns-then-end-rest
 returns-then-end-rest c =
     let l : length c.loop-i.rest.now ≡ length (first (fields_of c.args.separator c.loop-i.rest.now)) = omega arith in
     let w = whole c.args.separator c.loop-i.rest.now l in
-    sym (behind _ [] _ c.args.place c.loop-i.-i c.loop-i-test.true w) ∙ c.loop-i.invariant.1
+    sym (behind _ [] _ c.args.place c.loop-i._i c.loop-i-test.true w) ∙ c.loop-i.invariant.1
 
-pub overflow-add-rest : goal.overflow-add-rest
-overflow-add-rest c = omega arith
+pub overflow_add-rest : goal.overflow_add-rest
+overflow_add-rest c = omega arith
 
 pub loop-i-preserved : goal.loop-i-preserved
 loop-i-preserved c =
@@ -26,7 +26,7 @@ loop-i-preserved c =
     let bs = c.loop-i.rest.now in
     let k = cut s bs t c.until-end.ensures.value (omega arith) in
     let r = take_rest bs (t + 1) in
-    rw r (simp length-drop (omega arith), sym (behind _ _ _ c.args.place c.loop-i.-i c.loop-i-test.true k) ∙ c.loop-i.invariant.1)
+    rw r (simp length-drop (omega arith), sym (behind _ _ _ c.args.place c.loop-i._i c.loop-i-test.true k) ∙ c.loop-i.invariant.1)
 
 pub returns : goal.returns
 returns c =
@@ -34,6 +34,6 @@ returns c =
     let t = c.until.result in
     let bs = c.loop-i.rest.now in
     let z : t - 0 ≡ t = omega arith in
-    let y : c.args.place - c.loop-i.-i ≡ 0 = omega arith in
+    let y : c.args.place - c.loop-i._i ≡ 0 = omega arith in
     ap (λ (n : ℕ). take n bs) z ∙ (first_taken s bs t c.until.ensures.value c.until.ensures.within
     ∙ (ap (λ (n : ℕ). get_or (fields_of s bs) n []) (sym y) ∙ c.loop-i.invariant.1))

@@ -4,14 +4,14 @@ use Rattle.register.specs.Names.{place_from}
 use Rattle.register.proofs.Places.{here, further}
 use Rattle.register.proofs.table.position.Goals as goal
 
-pub returns-then-is-named : goal.returns-then-is-named
-returns-then-is-named g c =
-    sym (here g.R.Row.name _ c.args.rows.now c.loop-i.i _ c.loop-i-test.true c.index-rows-i.is c.if-is-named.ensures)
+pub returns-then-is_named : goal.returns-then-is_named
+returns-then-is_named g c =
+    sym (here g.R.Row.name _ c.args.rows.now c.loop-i.i _ c.loop-i-test.true c.index-rows-i.is c.if-is_named.ensures)
     ∙ c.loop-i.invariant
 
 pub loop-i-preserved : goal.loop-i-preserved
 loop-i-preserved g c =
-    sym (further g.R.Row.name _ c.args.rows.now c.loop-i.i _ c.loop-i-test.true c.index-rows-i.is c.if-is-named.ensures)
+    sym (further g.R.Row.name _ c.args.rows.now c.loop-i.i _ c.loop-i-test.true c.index-rows-i.is c.if-is_named.ensures)
     ∙ c.loop-i.invariant
 
 pub returns : goal.returns

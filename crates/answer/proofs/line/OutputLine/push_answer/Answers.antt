@@ -12,7 +12,7 @@ returns-in-Some c =
     record {
       text =
           three_parts (text_of c.args.self.now) (decimal c.from.result) (9 ∷ []) (decimal c.in-Some.place) _ _ _
-          c.push-number.ensures.text c.push-in-Some.ensures.text c.push-number-in-Some.ensures.text
+          c.push_number.ensures.text c.push-in-Some.ensures.text c.push_number-in-Some.ensures.text
           ∙ ap (λ (t : List ℕ). text_of c.args.self.now ++ t)
           ((λ j. decimal (number j) ++ place_text (place j)) ∙ ap told (sym c.in-Refused.is));
       len = search rules;

@@ -6,9 +6,9 @@ use Rattle.answer.proofs.line.OutputLine.report.Goals as goal
 
 pub returns : goal.returns
 returns c =
-    let numbered : text_of c.push-number.new.self ≡ decimal c.args.number =
-    c.push-number.ensures.text ∙ ap (λ (t : List ℕ). t ++ decimal c.args.number) c.new-line.ensures.text in
+    let numbered : text_of c.push_number.new.self ≡ decimal c.args.number =
+    c.push_number.ensures.text ∙ ap (λ (t : List ℕ). t ++ decimal c.args.number) c.new-line.ensures.text in
     three_parts (decimal c.args.number) (9 ∷ []) (told c.args.answer) (10 ∷ []) _ _ _
     (c.push.ensures.text ∙ ap (λ (t : List ℕ). t ++ 9 ∷ []) numbered)
-    c.push-answer.ensures.text
+    c.push_answer.ensures.text
     c.push-2.ensures.text

@@ -5,5 +5,5 @@ use Rattle.register.proofs.path.SheetPath.new.Goals as goal
 
 pub returns : goal.returns
 returns c =
-    ap Some (take_at c.copy-from-slice.new.self _ (length c.args.bytes.now) (ap length c.copy-from-slice.ensures.after) ∙ c.copy-from-slice.ensures.after)
+    ap Some (take_at c.copy_from_slice.new.self _ (length c.args.bytes.now) (ap length c.copy_from_slice.ensures.after) ∙ c.copy_from_slice.ensures.after)
     ∙ sym (cond-true (leb 1 (length c.args.bytes.now) && leb (length c.args.bytes.now) 40) (Some c.args.bytes.now) None (and_from _ _ (le-leb 1 (length c.args.bytes.now) (search rules)) (le-leb (length c.args.bytes.now) 40 (search rules))))

@@ -11,14 +11,14 @@ returns c =
     let state = state_of c.args.self.now.setup in
     record {
       reached = λ start file small h.
-          let asks = c.read-buffer.ensures ∙ ap asked (h.line c.requires) in
+          let asks = c.read_buffer.ensures ∙ ap asked (h.line c.requires) in
           record {
             state = line_answered start file state _ h.state (c.respond-answer.ensures.after ∙ ap (λ k. (reply state k).after) asks);
-            number = λ _. line_counted file _ _ small (h.number c.requires) c.saturating-add-self.ensures;
+            number = λ _. line_counted file _ _ small (h.number c.requires) c.saturating_add-self.ensures;
             line = λ _. c.clear.ensures ∙ ap line_in (sym (remainder_end file));
           };
       prints = λ start file small h.
-          let asks = c.read-buffer.ensures ∙ ap asked (h.line c.requires) in
+          let asks = c.read_buffer.ensures ∙ ap asked (h.line c.requires) in
           line_printed start file state _ _ _ h.state c.requires (h.number c.requires)
           (c.respond-answer.ensures.answer ∙ ap (λ k. (reply state k).answer) asks)
           c.report-output.ensures;

@@ -4,9 +4,9 @@ use Rattle.session.specs.Replies.{has_ended}
 use Rattle.session.proofs.Taken.{still, silent}
 use Rattle.session.proofs.run.Run.take.Goals as goal
 
-pub returns-then-has-ended : goal.returns-then-has-ended
-returns-then-has-ended c =
-    let ended = sym c.if-has-ended.ensures in
+pub returns-then-has_ended : goal.returns-then-has_ended
+returns-then-has_ended c =
+    let ended = sym c.if-has_ended.ensures in
     record {
       reached = λ start file small h. record {
         state = h.state ∙ sym (still start file c.args.byte (ap has_ended (sym h.state) ∙ ended));

@@ -30,7 +30,7 @@ returns-in-Account c =
 pub returns-in-Office : goal.returns-in-Office
 returns-in-Office c =
     let state : State = state_of c.args.self.now in
-    let a = adding (with_offices state) _ _ _ _ _ _ _ _ _ c.add-office.ensures in
+    let a = adding (with_offices state) _ _ _ _ _ _ _ _ _ c.add_office.ensures in
     let told = a.0 ∙ ap (λ k. (listed state (spoken k)).answer) (sym c.in-Office.is) in
     let left = a.1 ∙ ap (λ k. (listed state (spoken k)).after) (sym c.in-Office.is) in
     record { answer = told; after = left; sound = sound_from state _ (spoken c.args.command) left }
@@ -39,8 +39,8 @@ pub returns-in-Sheet : goal.returns-in-Sheet
 returns-in-Sheet c =
     let state : State = state_of c.args.self.now in
     let before = c.args.self.now.sheets in
-    let after = c.add-sheet.new.sheets in
-    let a = adding_shown listing (with_sheets state) _ _ _ _ before.used before.rows.now _ after.used after.rows.now c.add-sheet.ensures in
+    let after = c.add_sheet.new.sheets in
+    let a = adding_shown listing (with_sheets state) _ _ _ _ before.used before.rows.now _ after.used after.rows.now c.add_sheet.ensures in
     let told = a.0 ∙ ap (λ k. (listed state (spoken k)).answer) (sym c.in-Sheet.is) in
     let left = a.1 ∙ ap (λ k. (listed state (spoken k)).after) (sym c.in-Sheet.is) in
     record { answer = told; after = left; sound = sound_from state _ (spoken c.args.command) left }

@@ -11,8 +11,8 @@ returns-in-Start c = record {
   sound = keeps (state_of c.args.self.now) _ (in_phase_sound Ended (state_of c.args.self.now));
 }
 
-pub returns-in-default : goal.returns-in-default
-returns-in-default c = record {
+pub returns-in_default : goal.returns-in_default
+returns-in_default c = record {
   answer = search rules;
   after = search rules;
   sound = keeps (state_of c.args.self.now) _ (λ h. h);
