@@ -1,5 +1,5 @@
 -- Names of rows, as lists of numbers.
-use Rattle.std.specs.Prelude.{◌≡◌, ℕ, ◌+◌, ◌<◌, cond, List, [], ◌∷◌, length, Some, None, Option, ◌≢◌, slice_index_or}
+use Rattle.std.specs.Prelude.{ℕ, ◌+◌, ◌<◌, cond, List, [], ◌∷◌, length, Some, None, Option, ◌≢◌, slice_index_or}
 use Rattle.std.specs.Str.{bytes_eq}
 
 -- the place of the first of these names that is the one sought, the first place being i; nothing where there is none

@@ -1,7 +1,7 @@
 -- What is printed when one line more is answered.
 use Rattle.std.proofs.Common.{◌≡◌, ℕ, suc, ◌+◌, Bool, true, false, cond, List, [], ◌∷◌, ◌++◌, length, Option, sym, refl, ap, ◌∙◌, add-zero, arith}
 use Rattle.std.proofs.lemmas.List.{append-nil, append_assoc}
-use Rattle.std.proofs.lemmas.Bool.{both_ways, cond-true, cond-false}
+use Rattle.std.proofs.lemmas.Bool.{both_ways, cond-true}
 use Rattle.answer.specs.Written.{line_for}
 use Rattle.command.specs.Commands.{asked}
 use Rattle.command.specs.Lines.{line_in}

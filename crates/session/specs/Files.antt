@@ -1,5 +1,5 @@
 -- What is printed for a whole file.
-use Rattle.std.specs.Prelude.{ℕ, ◌+◌, ◌-◌, Bool, cond, ◌||◌, List, [], ◌∷◌, ◌++◌, length, take, Some, None, Option, ◌==◌, slice_index_or}
+use Rattle.std.specs.Prelude.{ℕ, ◌+◌, ◌-◌, cond, ◌||◌, List, [], ◌∷◌, ◌++◌, length, take, Some, None, Option, ◌==◌, slice_index_or}
 use Rattle.notation.specs.Fields.{fields_of}
 use Rattle.answer.specs.Lines.{text_of}
 use Rattle.answer.specs.Written.{line_for}
