@@ -10,7 +10,7 @@ loop-i-init c = (refl, refl)
 
 pub loop-i-preserved : goal.loop-i-preserved
 loop-i-preserved c =
-    let e = take_more_set c.loop-i.words c.loop-i.i c.word-at.result (omega arith) in
+    let e = take_more_set c.loop-i.words c.loop-i.i c.word_at.result (omega arith) in
     let f = words_of_more c.args.order c.loop-i.i c.args.block.now in
     (length-set c.loop-i.words c.loop-i.i _ ∙ c.loop-i.invariant.0, cc)
 

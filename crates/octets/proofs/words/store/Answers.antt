@@ -1,4 +1,4 @@
-use Rattle.std.proofs.Common.{◌≡◌, ℕ, ◌+◌, ◌*◌, List, ◌++◌, length, get_or, take, sym, ap, ◌∙◌, arith, rules}
+use Rattle.std.proofs.Common.{ℕ, ◌+◌, ◌*◌, List, ◌++◌, get_or, take, sym, ap, ◌∙◌, arith, rules}
 use Rattle.std.proofs.lemmas.List.{take_all}
 use Rattle.octets.specs.Order.{bytes_of}
 use Rattle.octets.specs.Words.{bytes_of_words}
@@ -16,7 +16,7 @@ loop-i-preserved c =
     let word : List ℕ = bytes_of order (get_or words i 0) in
     let four = length-bytes_of order (get_or words i 0) in (
       search rules,
-      ap (take (4 * (i + 1))) c.lay-word.ensures
+      ap (take (4 * (i + 1))) c.lay_word.ensures
           ∙ take-laid c.loop-i.bytes (4 * i) word (4 * (i + 1)) (omega arith) (omega arith)
           ∙ ap (λ xs. xs ++ word) c.loop-i.invariant.1
           ∙ sym (bytes_more order words i (omega arith)),
