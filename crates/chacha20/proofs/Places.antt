@@ -11,15 +11,15 @@ abbrev pub row : ℕ → ℕ → List ℕ
 row zero i = []
 row (suc n) i = i ∷ row n (i + 1)
 
-get_d_row : (n i k : ℕ) → k < n → get_or (row n i) k 0 ≡ i + k
-get_d_row zero i k h = absurd (omega arith)
-get_d_row (suc n) i zero h = sym (add-zero i)
-get_d_row (suc n) i (suc k) h = get_d_row n (i + 1) k (omega arith) ∙ omega arith
+get_or-row : (n i k : ℕ) → k < n → get_or (row n i) k 0 ≡ i + k
+get_or-row zero i k h = absurd (omega arith)
+get_or-row (suc n) i zero h = sym (add-zero i)
+get_or-row (suc n) i (suc k) h = get_or-row n (i + 1) k (omega arith) ∙ omega arith
 
 -- a function of one place more
 pub places_more : (f : ℕ → ℕ) (i : ℕ) → i < 16 → map f (take (i + 1) places) ≡ map f (take i places) ++ f i ∷ []
 places_more f i h =
-    let e : get_or places i 0 ≡ i = get_d_row 16 0 i h ∙ omega arith in
+    let e : get_or places i 0 ≡ i = get_or-row 16 0 i h ∙ omega arith in
     map_more f places i 0 h ∙ ap (λ k. map f (take i places) ++ f k ∷ []) e
 
 -- what stands at the places of a row is a part of the list

@@ -1,5 +1,5 @@
 -- The ChaCha20 block function: RFC 8439, section 2.3.
-use Rattle.std.specs.Prelude.{ℕ, List, [], ◌∷◌, map, slice_index_or}
+use Rattle.std.specs.Prelude.{ℕ, List, [], ◌∷◌, map, slice_index}
 use Rattle.octets.specs.Words.{bytes_of_words, word_at, ◌⊞◌}
 use Rattle.octets.specs.declared.order.ByteOrder.TheVariants.{LowFirst}
 use Rattle.chacha20.specs.Rounds.{double_rounds}
@@ -18,7 +18,7 @@ places = 0 ∷ 1 ∷ 2 ∷ 3 ∷ 4 ∷ 5 ∷ 6 ∷ 7 ∷ 8 ∷ 9 ∷ 10 ∷ 11 �
 
 -- the words of the key stream: ten double rounds, and each word of the start added
 unfoldable pub mixed_words : List ℕ → List ℕ
-mixed_words start = map (λ i. slice_index_or (double_rounds 10 start) i 0 ⊞ slice_index_or start i 0) places
+mixed_words start = map (λ i. slice_index (double_rounds 10 start) i ⊞ slice_index start i) places
 
 -- the 64 bytes of key stream
 abbrev pub chacha20 : List ℕ → ℕ → List ℕ → List ℕ

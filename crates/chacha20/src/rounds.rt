@@ -29,7 +29,10 @@ fn quarter_round(four: Four) -> Four
 /// A quarter round on the words of the state at the places `a`, `b`, `c` and `d`. It works in place, since a copy of the
 /// state at each step would take time.
 fn quarter_round_at(s: &mut [u32; 16], a: usize, b: usize, c: usize, d: usize)
-    requires { (a < 16) × ((b < 16) × ((c < 16) × (d < 16))) }
+    requires a_in { a < 16 }
+    requires b_in { b < 16 }
+    requires c_in { c < 16 }
+    requires d_in { d < 16 }
     ensures { s.new ≡ quarter_at s.old a b c d }
 {
     let four = Four {

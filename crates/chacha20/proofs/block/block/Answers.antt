@@ -6,4 +6,4 @@ use Rattle.chacha20.proofs.block.block.Goals as goal
 
 pub returns : goal.returns
 returns c =
-    c.store-all.ensures ∙ ap (bytes_of_words LowFirst) (c.mixed-words.ensures ∙ ap mixed_words c.start.ensures)
+    c.store_all.ensures ∙ ap (bytes_of_words LowFirst) (c.mixed_words.ensures ∙ ap mixed_words c.start.ensures)

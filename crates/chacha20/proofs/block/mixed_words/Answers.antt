@@ -10,7 +10,7 @@ loop-i-preserved c =
     let i = c.loop-i.i in
     let words = c.loop-i.words in
     let l = c.loop-i.invariant.0 in
-    let sum : ℕ → ℕ = λ k. get_or c.twenty-rounds.new.s k 0 ⊞ get_or c.args.start k 0 in (
+    let sum : ℕ → ℕ = λ k. get_or c.twenty_rounds.new.s k 0 ⊞ get_or c.args.start k 0 in (
       length-set words i _ ∙ l,
       take_more_set words i _ (omega arith)
           ∙ ap (λ xs. xs ++ sum i ∷ []) c.loop-i.invariant.1
@@ -25,5 +25,5 @@ returns c =
     let e : i ≡ 16 = omega arith in
     sym (take_all i c.loop-i.words (omega arith))
     ∙ c.loop-i.invariant.1
-    ∙ ap (λ (n : ℕ). map (λ k. get_or c.twenty-rounds.new.s k 0 ⊞ get_or c.args.start k 0) (take n places)) e
-    ∙ ap (λ (s : List ℕ). map (λ k. get_or s k 0 ⊞ get_or c.args.start k 0) places) c.twenty-rounds.ensures
+    ∙ ap (λ (n : ℕ). map (λ k. get_or c.twenty_rounds.new.s k 0 ⊞ get_or c.args.start k 0) (take n places)) e
+    ∙ ap (λ (s : List ℕ). map (λ k. get_or s k 0 ⊞ get_or c.args.start k 0) places) c.twenty_rounds.ensures

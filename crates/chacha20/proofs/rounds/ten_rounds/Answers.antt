@@ -9,4 +9,4 @@ loop-i-init c = refl
 
 pub loop-i-preserved : goal.loop-i-preserved
 loop-i-preserved c =
-    c.double-round.ensures ∙ ap double_round c.loop-i.invariant ∙ sym (rounds_more c.loop-i.-i c.args.s.now)
+    c.double_round.ensures ∙ ap double_round c.loop-i.invariant ∙ sym (rounds_more c.loop-i._i c.args.s.now)

@@ -4,4 +4,4 @@ use Rattle.chacha20.proofs.rounds.twenty_rounds.Goals as goal
 
 pub returns : goal.returns
 unfolding double_rounds
-returns c = c.ten-rounds-2.ensures ∙ ap (double_rounds 5) c.ten-rounds.ensures
+returns c = c.ten_rounds-2.ensures ∙ ap (double_rounds 5) c.ten_rounds.ensures
