@@ -12,7 +12,7 @@ loop-i-preserved c =
     let i = c.loop-i.i in
     let words = c.args.words.now in
     let e : 8 * (i + 1) ≡ 8 * i + 8 = omega arith in
-    c.eight-rounds-next.ensures
+    c.eight_rounds-next.ensures
     ∙ ap (λ s. eight_rounds s words (8 * i)) c.loop-i.invariant
     ∙ sym (ap (λ n. rounds n words c.args.h) e ∙ rounds_eight (8 * i) words c.args.h)
 

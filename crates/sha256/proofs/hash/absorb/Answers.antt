@@ -17,7 +17,7 @@ loop-i-preserved c =
     let left = length-drop (64 * i) message in
     let whole : 64 ≤ length (drop (64 * i) message) = omega arith in
     c.compress-next.ensures
-    ∙ ap (compressed c.loop-i.words) (c.block-at.ensures ∙ filled_whole 64 (drop (64 * i) message) whole)
+    ∙ ap (compressed c.loop-i.words) (c.block_at.ensures ∙ filled_whole 64 (drop (64 * i) message) whole)
     ∙ ap (λ s. compressed s (take 64 (drop (64 * i) message))) c.loop-i.invariant
     ∙ sym (absorbed_more i message c.args.h)
 

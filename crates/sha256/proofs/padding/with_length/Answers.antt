@@ -8,5 +8,5 @@ pub returns : goal.returns
 returns c =
     let block = c.args.block in
     c.lay.ensures
-    ∙ ap (laid block 56) c.length-bytes.ensures
+    ∙ ap (laid block 56) c.length_bytes.ensures
     ∙ laid_last block 56 (length_bytes c.args.count) (search rules)

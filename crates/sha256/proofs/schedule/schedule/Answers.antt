@@ -16,9 +16,9 @@ loop-i-preserved c =
     let l = c.loop-i.invariant.0 in
     let next : (i + 1) + 16 ≡ (i + 16) + 1 = omega arith in (
       length-set words (i + 16) _ ∙ l,
-      ap (λ n. take n (set words (i + 16) c.next-word.result)) next
-          ∙ take_more_set words (i + 16) c.next-word.result (omega arith)
-          ∙ ap (λ x. take (i + 16) words ++ x ∷ []) (c.next-word.ensures ∙ sym (next_word-front words i))
+      ap (λ n. take n (set words (i + 16) c.next_word.result)) next
+          ∙ take_more_set words (i + 16) c.next_word.result (omega arith)
+          ∙ ap (λ x. take (i + 16) words ++ x ∷ []) (c.next_word.ensures ∙ sym (next_word-front words i))
           ∙ ap (λ xs. xs ++ next_word xs i ∷ []) c.loop-i.invariant.1
           ∙ sym (scheduled_more i block),
     )
