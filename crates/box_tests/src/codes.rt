@@ -30,11 +30,11 @@ fn differences_do_not_cancel(rt: HostRuntime) {
 fn results_for_other_languages(rt: HostRuntime) {
     let mut out = [0xee; 32];
     assert_eq!(rt; release_box_hmac_sha256(&[0; 32], &[], &mut out), 0);
-    assert_eq!(rt; &out[0..4], &[0xb6, 0x13, 0x67, 0x9a]);
+    assert_eq!(rt; &out[0..4], [0xb6, 0x13, 0x67, 0x9a].as_slice());
     assert_eq!(rt; release_box_keyed_blake2s(&[0; 32], &[], &mut out), 0);
-    assert_eq!(rt; &out[0..4], &[0xcc, 0x8e, 0xd0, 0x46]);
+    assert_eq!(rt; &out[0..4], [0xcc, 0x8e, 0xd0, 0x46].as_slice());
     release_box_chacha20_encrypt(&[0; 32], &[0; 32], &mut out);
-    assert_eq!(rt; &out[0..4], &[0x76, 0xb8, 0xe0, 0xad]);
+    assert_eq!(rt; &out[0..4], [0x76, 0xb8, 0xe0, 0xad].as_slice());
 }
 
 #[test]
@@ -45,5 +45,5 @@ fn refusals_leave_the_result_as_it_was(rt: HostRuntime) {
         release_box_keyed_blake2s(&[7; 32], &[1; 1025], &mut out),
         18
     );
-    assert_eq!(rt; &out[0..32], &[0xee; 32]);
+    assert_eq!(rt; &out[0..32], [0xee; 32].as_slice());
 }

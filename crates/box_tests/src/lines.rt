@@ -57,7 +57,7 @@ fn runs_in_short_memory(rt: HostRuntime) -> Result<(), Fail> {
     assert!(rt; run.take(b'F').is_none());
     match run.finish() {
         Some(output) => {
-            assert_eq!(rt; output.as_bytes(), b"6\t27\n");
+            assert_eq!(rt; output.as_bytes(), b"6\t27\n".as_slice());
             Ok(())
         },
         None => Err(Fail::new("a line without a line feed is a line")),

@@ -5,7 +5,7 @@ use Rattle.octets.specs.Laying.{filled}
 use Rattle.octets.proofs.Filled.{filled_few, length-filled, take-filled}
 use Rattle.sha256.specs.Compression.{compressed}
 use Rattle.sha256.specs.Hashing.{absorbed, absorbed_all, length_bytes, padding}
-use Rattle.sha256.specs.Blocks.{absorbed_after, absorbed_front, absorbed_more}
+use Rattle.sha256.proofs.Blocks.{absorbed_after, absorbed_front, absorbed_more}
 
 -- the length is counted in 64 bits
 padding_wrapped : (count : ℕ) → padding (count % 2 ^ 64) ≡ padding count

@@ -1,5 +1,5 @@
 -- The schedule and the rounds, one step at a time.
-use Rattle.std.proofs.Common.{◌≡◌, ℕ, suc, ◌+◌, List, [], ◌∷◌, ◌++◌, get_or, take, ap, ◌∙◌, add-suc, add-one, arith}
+use Rattle.std.proofs.Common.{◌≡◌, ℕ, suc, ◌+◌, List, [], ◌∷◌, ◌++◌, take, ap, ◌∙◌, add-suc, add-one, arith}
 use Rattle.std.proofs.lemmas.List.{get_or-take}
 use Rattle.sha256.specs.Compression.{eight_rounds, next_word, round_at, rounds, scheduled}
 

@@ -1,5 +1,5 @@
 -- The hash of a whole message: FIPS 180-4, section 5.1.1 (padding) and section 6.2.
-use Rattle.std.specs.Prelude.{ℕ, zero, suc, ◌+◌, ◌-◌, ◌*◌, ◌/◌, ◌%◌, ◌^◌, List, [], ◌∷◌, ◌++◌, length, take, drop, replicate}
+use Rattle.std.specs.Prelude.{ℕ, zero, suc, ◌-◌, ◌*◌, ◌/◌, ◌%◌, ◌^◌, List, [], ◌∷◌, ◌++◌, length, take, drop, replicate}
 use Rattle.octets.specs.Words.{bytes_of_words}
 use Rattle.octets.specs.declared.order.ByteOrder.TheVariants.{HighFirst}
 use Rattle.sha256.specs.Compression.{compressed}

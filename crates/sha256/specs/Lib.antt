@@ -2,4 +2,4 @@ pub mod Tables
 pub mod Functions
 pub mod Compression
 pub mod Hashing
-pub mod Blocks
+pub mod Lengths

@@ -1,7 +1,7 @@
 //! HMAC-SHA-256 as the box's message authentication code.
 ghost use Rattle.hmac.specs.Hmac.{hmac_of};
 ghost use Rattle.sha256.specs.Hashing.{sha256};
-ghost use Rattle.sha256.specs.Blocks.{length-sha256};
+ghost use Rattle.sha256.specs.Lengths.{length-sha256};
 ghost use Rattle.std.proofs.Common.{rules};
 
 use crate::hash::Sha256;

@@ -3,7 +3,7 @@ use Rattle.std.proofs.lemmas.List.{length-drop}
 use Rattle.octets.proofs.Filled.{filled_whole}
 use Rattle.sha256.specs.Compression.{compressed}
 use Rattle.sha256.specs.Hashing.{absorbed}
-use Rattle.sha256.specs.Blocks.{absorbed_more}
+use Rattle.sha256.proofs.Blocks.{absorbed_more}
 use Rattle.sha256.proofs.hash.absorb.Goals as goal
 
 pub loop-i-init : goal.loop-i-init

@@ -1,4 +1,4 @@
-use Rattle.std.proofs.Common.{◌≡◌, ◌-◌, length, drop, set, ap, ◌∙◌, arith}
+use Rattle.std.proofs.Common.{◌-◌, length, drop, set, ap, ◌∙◌}
 use Rattle.std.proofs.lemmas.List.{length-drop}
 use Rattle.octets.proofs.Filled.{set_filled}
 use Rattle.sha256.proofs.padding.followed_by.Goals as goal

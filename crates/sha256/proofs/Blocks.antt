@@ -1,12 +1,9 @@
 -- Blocks taken one after the other.
-use Rattle.std.specs.Prelude.{◌≡◌, ℕ, zero, suc, ◌+◌, ◌*◌, ◌/◌, ◌≤◌, List, ◌++◌, length, take, drop, refl}
+use Rattle.std.specs.Prelude.{◌≡◌, ℕ, zero, suc, ◌+◌, ◌*◌, ◌≤◌, List, ◌++◌, length, take, drop, refl}
 use Rattle.std.proofs.Common.{sym, ◌∙◌, ap, add-one, arith}
 use Rattle.std.proofs.lemmas.List.{drop-append-le, drop_at, drop-drop, length-drop, take-append-le, take_at}
-use Rattle.octets.specs.declared.order.ByteOrder.TheVariants.{HighFirst}
-use Rattle.octets.proofs.Stored.{length-bytes}
 use Rattle.sha256.specs.Compression.{compressed}
-use Rattle.sha256.specs.Hashing.{absorbed, absorbed_all, padding, sha256}
-use Rattle.sha256.specs.Tables.{start_words}
+use Rattle.sha256.specs.Hashing.{absorbed}
 
 pub absorbed_more : (n : ℕ) (bytes h : List ℕ) → absorbed (n + 1) bytes h ≡ compressed (absorbed n bytes h) (take 64 (drop (64 * n) bytes))
 unfolding absorbed
@@ -31,14 +28,3 @@ absorbed_after (suc n) a b h e =
     ap (λ s. compressed s (take 64 (drop (64 * suc n) (a ++ b)))) (absorbed_after n a b h e)
     ∙ ap (λ k. compressed (absorbed n b (compressed h a)) (take 64 (drop k (a ++ b)))) next
     ∙ ap (λ xs. compressed (absorbed n b (compressed h a)) (take 64 xs)) (sym (drop-drop (64 * n) 64 (a ++ b)) ∙ ap (drop (64 * n)) (drop_at a b 64 e))
-
-pub length-absorbed : (n : ℕ) (bytes h : List ℕ) → length h ≡ 8 → length (absorbed n bytes h) ≡ 8
-unfolding absorbed
-length-absorbed zero bytes h e = e
-length-absorbed (suc n) bytes h e = refl
-
-pub length-sha256 : (message : List ℕ) → length (sha256 message) ≡ 32
-length-sha256 message =
-    let padded : List ℕ = message ++ padding (length message) in
-    length-bytes HighFirst (absorbed_all padded start_words)
-    ∙ ap (λ n. 4 * n) (length-absorbed (length padded / 64) padded start_words refl)

@@ -1,0 +1,18 @@
+-- How long the results are, which the law of the code cites.
+use Rattle.std.specs.Prelude.{◌≡◌, ℕ, zero, suc, ◌*◌, ◌/◌, List, ◌++◌, length, refl}
+use Rattle.std.proofs.Common.{ap, ◌∙◌}
+use Rattle.octets.specs.declared.order.ByteOrder.TheVariants.{HighFirst}
+use Rattle.octets.proofs.Stored.{length-bytes}
+use Rattle.sha256.specs.Hashing.{absorbed, absorbed_all, padding, sha256}
+use Rattle.sha256.specs.Tables.{start_words}
+
+pub length-absorbed : (n : ℕ) (bytes h : List ℕ) → length h ≡ 8 → length (absorbed n bytes h) ≡ 8
+unfolding absorbed
+length-absorbed zero bytes h e = e
+length-absorbed (suc n) bytes h e = refl
+
+pub length-sha256 : (message : List ℕ) → length (sha256 message) ≡ 32
+length-sha256 message =
+    let padded : List ℕ = message ++ padding (length message) in
+    length-bytes HighFirst (absorbed_all padded start_words)
+    ∙ ap (λ n. 4 * n) (length-absorbed (length padded / 64) padded start_words refl)
