@@ -8,7 +8,7 @@ use std::time::Instant;
 
 type Bytes32 = [u8; 32];
 
-// Nothing checks these against the box's source, crates/exports/src/lib.rt: a slice is passed as its start and its length.
+// Nothing checks these against the box's source, crates/exports_c/src/lib.rt: a slice is passed as its start and its length.
 unsafe extern "C" {
     fn release_box_hmac_sha256(key: &Bytes32, message: *const u8, length: usize, out: &mut Bytes32) -> u8;
     fn release_box_keyed_blake2s(key: &Bytes32, message: *const u8, length: usize, out: &mut Bytes32) -> u8;

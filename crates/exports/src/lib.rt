@@ -1,5 +1,5 @@
-//! Functions of the box for other languages, on numbers and bytes. Where a call can be refused, its answer is 0 or the number
-//! of the refusal, and a refusal leaves `out` as it was.
+//! What the box offers to other languages, on numbers and bytes. Where a call can be refused, its answer is 0 or the number
+//! of the refusal, and a refusal leaves `out` as it was. The static library `exports_c` gives these functions their symbols.
 #![tactic(auto)]
 
 ghost use Rattle.std.specs.Prelude.{◌≡◌};
@@ -32,8 +32,7 @@ fn put_tag<M: Mac>(mac: &M, key: &[u8; 32], message: &[u8], out: &mut [u8; 32]) 
 }
 
 /// The HMAC-SHA-256 tag of a message.
-#[unsafe(no_mangle)]
-pub extern "C" fn release_box_hmac_sha256(key: &[u8; 32], message: &[u8], out: &mut [u8; 32]) -> u8
+pub fn release_box_hmac_sha256(key: &[u8; 32], message: &[u8], out: &mut [u8; 32]) -> u8
     ensures answer { result ≡ answer_of (tagged 1024 (hmac_of sha256) key.now message.now) }
     ensures result { out.new ≡ result_of (tagged 1024 (hmac_of sha256) key.now message.now) out.old }
 {
@@ -41,12 +40,7 @@ pub extern "C" fn release_box_hmac_sha256(key: &[u8; 32], message: &[u8], out: &
 }
 
 /// The keyed BLAKE2s tag of a message.
-#[unsafe(no_mangle)]
-pub extern "C" fn release_box_keyed_blake2s(
-    key: &[u8; 32],
-    message: &[u8],
-    out: &mut [u8; 32],
-) -> u8
+pub fn release_box_keyed_blake2s(key: &[u8; 32], message: &[u8], out: &mut [u8; 32]) -> u8
     ensures answer { result ≡ answer_of (tagged 1024 blake2s key.now message.now) }
     ensures result { out.new ≡ result_of (tagged 1024 blake2s key.now message.now) out.old }
 {
@@ -54,8 +48,7 @@ pub extern "C" fn release_box_keyed_blake2s(
 }
 
 /// 32 bytes encrypted by the ChaCha20 cipher, which never refuses.
-#[unsafe(no_mangle)]
-pub extern "C" fn release_box_chacha20_encrypt(key: &[u8; 32], plain: &[u8; 32], out: &mut [u8; 32])
+pub fn release_box_chacha20_encrypt(key: &[u8; 32], plain: &[u8; 32], out: &mut [u8; 32])
     ensures { out.new ≡ masked plain.now (chacha_stream key.now) }
 {
     *out = ChaChaCipher.encrypt(key, plain);
