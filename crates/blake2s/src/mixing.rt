@@ -33,7 +33,10 @@ fn mix_four(four: Four, x: u32, y: u32) -> Four
 /// Mixes `x` and `y` into the words of the state at the places `a`, `b`, `c` and `d`. It works in place, since a copy of the
 /// state at each step would take more time than the step.
 fn mix_at(v: &mut [u32; 16], a: usize, b: usize, c: usize, d: usize, x: u32, y: u32)
-    requires { (a < 16) × ((b < 16) × ((c < 16) × (d < 16))) }
+    requires a_in { a < 16 }
+    requires b_in { b < 16 }
+    requires c_in { c < 16 }
+    requires d_in { d < 16 }
     ensures { v.new ≡ mixed_at v.old a b c d x y }
 {
     let four = Four {
@@ -51,7 +54,8 @@ fn mix_at(v: &mut [u32; 16], a: usize, b: usize, c: usize, d: usize, x: u32, y: 
 
 /// The place of the word that a round takes as its word number `i`.
 fn place(round: usize, i: usize) -> usize
-    requires { (round < 10) × (i < 16) }
+    requires round_in { round < 10 }
+    requires i_in { i < 16 }
     ensures { result ≡ slice_index (slice_index_or orders round []) i }
 {
     ORDERS[round][i] as usize
@@ -59,7 +63,8 @@ fn place(round: usize, i: usize) -> usize
 
 /// The word that a round takes as its word number `i`, of the words `m` of a block.
 fn word(m: &[u32; 16], round: usize, i: usize) -> u32
-    requires { (round < 10) × (i < 16) }
+    requires round_in { round < 10 }
+    requires i_in { i < 16 }
     ensures { result ≡ word_in m.now (slice_index_or orders round []) i }
 {
     m[place(round, i)]

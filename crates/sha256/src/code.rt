@@ -2,7 +2,7 @@
 ghost use Rattle.hmac.specs.Hmac.{hmac_of};
 ghost use Rattle.sha256.specs.Hashing.{sha256};
 ghost use Rattle.sha256.specs.Lengths.{length-sha256};
-ghost use Rattle.std.proofs.Common.{rules};
+ghost use Rattle.std.proofs.Common.{lit≤};
 
 use crate::hash::Sha256;
 use hmac::hmac;
@@ -20,7 +20,7 @@ impl Mac for HmacSha256 {
 
     ghost sized = { λ mac key message. length-sha256 _ };
 
-    ghost roomy = { Prim.search rules };
+    ghost roomy = { λ _. lit≤ tt };
 
     fn tag(&self, key: &[u8; 32], message: &[u8]) -> Result<[u8; 32], Refusal> {
         if message.len() > 1024 {

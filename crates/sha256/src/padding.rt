@@ -8,7 +8,8 @@ use octets::laying::lay;
 
 /// The last bytes of a message, from `at` on, and a byte behind them, filled up with zeros to a block.
 fn followed_by(message: &[u8], at: usize, byte: u8) -> [u8; 64]
-    requires { (at ≤ length message.now) × (length message.now - at < 64) }
+    requires within { at ≤ length message.now }
+    requires room { length message.now - at < 64 }
     ensures { result ≡ filled 64 (drop at message.now ++ byte ∷ []) }
 {
     let mut block = block_at(message, at);

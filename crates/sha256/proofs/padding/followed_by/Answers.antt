@@ -8,4 +8,4 @@ returns c =
     let at = c.args.at in
     let message = c.args.message.now in
     ap (λ xs. set xs (length message - at) c.args.byte) c.block_at-block.ensures
-    ∙ set_filled 64 (drop at message) (length message - at) c.args.byte (length-drop at message) c.requires.1
+    ∙ set_filled 64 (drop at message) (length message - at) c.args.byte (length-drop at message) c.requires.room
