@@ -11,7 +11,7 @@ unfolding absorbed
 absorbed_more n before bytes h = rw add-one
 
 -- the same words, block and count compress to the same
-compressed_same : (h h' b b' : List ℕ) (n n' : ℕ) (last : Bool) → h ≡ h' → b ≡ b' → n ≡ n' → compressed h b n last ≡ compressed h' b' n' last
+pub compressed_same : (h h' b b' : List ℕ) (n n' : ℕ) (last : Bool) → h ≡ h' → b ≡ b' → n ≡ n' → compressed h b n last ≡ compressed h' b' n' last
 compressed_same h h' b b' n n' last e f g =
     ap (λ x. compressed x b n last) e ∙ ap (λ x. compressed h' x n last) f ∙ ap (λ x. compressed h' b' x last) g
 

@@ -1,7 +1,6 @@
 -- Each entry of the rounds' orders is the place of a word in a block.
-use Rattle.std.proofs.Common.{◌≡◌, ℕ, zero, suc, ◌<◌, Bool, true, ◌&&◌, ltb, List, [], ◌∷◌, get_or, refl, lit<}
+use Rattle.std.proofs.Common.{◌≡◌, ℕ, zero, suc, ◌<◌, Bool, true, ◌&&◌, ltb, List, [], ◌∷◌, get_or, lit<}
 use Rattle.std.proofs.lemmas.Bool.{and_parts, ltb-true}
-use Rattle.blake2s.specs.Tables.{orders}
 
 -- whether each of these numbers is below sixteen, and the same of each row
 abbrev below : List ℕ → Bool
@@ -18,11 +17,7 @@ entry_below [] i e = lit< tt
 entry_below (x ∷ xs) zero e = ltb-true x 16 (and_parts (ltb x 16) (below xs) e).0
 entry_below (x ∷ xs) (suc i) e = entry_below xs i (and_parts (ltb x 16) (below xs) e).1
 
-row_below : (rs : List (List ℕ)) (round i : ℕ) → rows_below rs ≡ true → get_or (get_or rs round []) i 0 < 16
+pub row_below : (rs : List (List ℕ)) (round i : ℕ) → rows_below rs ≡ true → get_or (get_or rs round []) i 0 < 16
 row_below [] round i e = lit< tt
 row_below (r ∷ rs) zero i e = entry_below r i (and_parts (below r) (rows_below rs) e).0
 row_below (r ∷ rs) (suc round) i e = row_below rs round i (and_parts (below r) (rows_below rs) e).1
-
--- the test, computed over the whole table
-pub place_below : (round i : ℕ) → get_or (get_or orders round []) i 0 < 16
-place_below round i = row_below orders round i refl

@@ -15,29 +15,29 @@ working_state h count last =
     ∷ bit_xor (slice_index start_words 6) (cond last (2 ^ 32 - 1) 0)
     ∷ slice_index start_words 7 ∷ []
 
--- the word of the block m that comes at place i in the order s
-abbrev pub word_in : List ℕ → List ℕ → ℕ → ℕ
-word_in m s i = slice_index m (slice_index s i)
+-- the words of the block m in the order s
+abbrev pub words_in : List ℕ → List ℕ → List ℕ
+words_in m s = map (λ i. slice_index m (slice_index s i)) (0 ∷ 1 ∷ 2 ∷ 3 ∷ 4 ∷ 5 ∷ 6 ∷ 7 ∷ 8 ∷ 9 ∷ 10 ∷ 11 ∷ 12 ∷ 13 ∷ 14 ∷ 15 ∷ [])
 
--- the first half of a round, over the words m in the order s: the columns
-abbrev pub mixed_columns : List ℕ → List ℕ → List ℕ → List ℕ
-mixed_columns v m s =
-    let v1 = mixed_at v 0 4 8 12 (word_in m s 0) (word_in m s 1) in
-    let v2 = mixed_at v1 1 5 9 13 (word_in m s 2) (word_in m s 3) in
-    let v3 = mixed_at v2 2 6 10 14 (word_in m s 4) (word_in m s 5) in
-    mixed_at v3 3 7 11 15 (word_in m s 6) (word_in m s 7)
+-- the first half of a round, over the words w in its order: the columns
+abbrev pub mixed_columns : List ℕ → List ℕ → List ℕ
+mixed_columns v w =
+    let v1 = mixed_at v 0 4 8 12 (slice_index w 0) (slice_index w 1) in
+    let v2 = mixed_at v1 1 5 9 13 (slice_index w 2) (slice_index w 3) in
+    let v3 = mixed_at v2 2 6 10 14 (slice_index w 4) (slice_index w 5) in
+    mixed_at v3 3 7 11 15 (slice_index w 6) (slice_index w 7)
 
 -- the second half: the diagonals
-abbrev pub mixed_diagonals : List ℕ → List ℕ → List ℕ → List ℕ
-mixed_diagonals v m s =
-    let v1 = mixed_at v 0 5 10 15 (word_in m s 8) (word_in m s 9) in
-    let v2 = mixed_at v1 1 6 11 12 (word_in m s 10) (word_in m s 11) in
-    let v3 = mixed_at v2 2 7 8 13 (word_in m s 12) (word_in m s 13) in
-    mixed_at v3 3 4 9 14 (word_in m s 14) (word_in m s 15)
+abbrev pub mixed_diagonals : List ℕ → List ℕ → List ℕ
+mixed_diagonals v w =
+    let v1 = mixed_at v 0 5 10 15 (slice_index w 8) (slice_index w 9) in
+    let v2 = mixed_at v1 1 6 11 12 (slice_index w 10) (slice_index w 11) in
+    let v3 = mixed_at v2 2 7 8 13 (slice_index w 12) (slice_index w 13) in
+    mixed_at v3 3 4 9 14 (slice_index w 14) (slice_index w 15)
 
--- one round
+-- one round, over the words m in the order s
 abbrev pub mixed_round : List ℕ → List ℕ → List ℕ → List ℕ
-mixed_round v m s = mixed_diagonals (mixed_columns v m s) m s
+mixed_round v m s = mixed_diagonals (mixed_columns v (words_in m s)) (words_in m s)
 
 -- the first n rounds
 unfoldable pub mixed_rounds : ℕ → List ℕ → List ℕ → List ℕ

@@ -1,7 +1,8 @@
 -- The mixing function of RFC 7693, section 3.1.
-use Rattle.std.specs.Prelude.{ℕ, List, bit_xor, slice_index, slice_set}
+use Rattle.std.specs.Prelude.{ℕ, List, bit_xor}
 use Rattle.octets.specs.Words.{◌⊞◌, rotr}
-use Rattle.blake2s.specs.declared.mixing.Four.{Four}
+use Rattle.octets.specs.Quarters.{four_at, with_four}
+use Rattle.octets.specs.declared.quarters.Four.{Four}
 
 -- two words of the block mixed into four words of the state
 abbrev pub mixed_four : Four → ℕ → ℕ → Four
@@ -18,6 +19,4 @@ mixed_four v x y =
 
 -- the same for the words of the state at these places
 unfoldable pub mixed_at : List ℕ → ℕ → ℕ → ℕ → ℕ → ℕ → ℕ → List ℕ
-mixed_at v a b c d x y =
-    let four = mixed_four record { a = slice_index v a; b = slice_index v b; c = slice_index v c; d = slice_index v d } x y in
-    slice_set (slice_set (slice_set (slice_set v a four.a) b four.b) c four.c) d four.d
+mixed_at v a b c d x y = with_four v a b c d (mixed_four (four_at v a b c d) x y)

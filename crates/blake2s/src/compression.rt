@@ -6,6 +6,7 @@ use crate::mixing::mix_rounds;
 use crate::tables::START;
 use octets::order::ByteOrder;
 use octets::words::load;
+use std::array;
 
 /// The low 32 bits of the counter.
 fn low(count: u64) -> u32
@@ -32,24 +33,13 @@ fn flag(last: bool) -> u32
 fn working_state(h: [u32; 8], count: u64, last: bool) -> [u32; 16]
     ensures { result ≡ working_state h count last }
 {
-    [
-        h[0],
-        h[1],
-        h[2],
-        h[3],
-        h[4],
-        h[5],
-        h[6],
-        h[7],
-        START[0],
-        START[1],
-        START[2],
-        START[3],
-        START[4] ^ low(count),
-        START[5] ^ high(count),
-        START[6] ^ flag(last),
-        START[7],
-    ]
+    let mut v = [0; 16];
+    v[..8].copy_from_slice(&h);
+    v[8..].copy_from_slice(&START);
+    v[12] ^= low(count);
+    v[13] ^= high(count);
+    v[14] ^= flag(last);
+    v
 }
 
 /// The hash's words after one block more. `count` is how many bytes were taken so far, this block's among them; `last` says
@@ -60,14 +50,5 @@ pub(crate) fn compress(h: [u32; 8], block: &[u8; 64], count: u64, last: bool) ->
     let m = load(ByteOrder::LowFirst, block);
     let mut v = working_state(h, count, last);
     mix_rounds(&mut v, &m);
-    [
-        h[0] ^ v[0] ^ v[8],
-        h[1] ^ v[1] ^ v[9],
-        h[2] ^ v[2] ^ v[10],
-        h[3] ^ v[3] ^ v[11],
-        h[4] ^ v[4] ^ v[12],
-        h[5] ^ v[5] ^ v[13],
-        h[6] ^ v[6] ^ v[14],
-        h[7] ^ v[7] ^ v[15],
-    ]
+    array::from_fn(|i| h[i] ^ v[i] ^ v[i + 8])
 }

@@ -13,16 +13,9 @@ fn start(key_length: u32) -> [u32; 8]
     requires { key_length ≤ 32 }
     ensures { result ≡ started key_length }
 {
-    [
-        START[0] ^ 0x0101_0000 ^ (key_length * 256) ^ 32,
-        START[1],
-        START[2],
-        START[3],
-        START[4],
-        START[5],
-        START[6],
-        START[7],
-    ]
+    let mut words = START;
+    words[0] = words[0] ^ 0x0101_0000 ^ (key_length * 256) ^ 32;
+    words
 }
 
 /// The words after the first `blocks` blocks of the message, none of them the last. `before` bytes were taken already.
@@ -30,11 +23,12 @@ fn absorb(h: [u32; 8], before: u64, message: &[u8], blocks: usize) -> [u32; 8]
     requires { 64 * blocks ≤ length message.now }
     ensures { result ≡ absorbed blocks before message.now h }
 {
+    let (whole, _) = message.as_chunks::<64>();
     let mut words = h;
-    for i in 0..blocks {
-        let at = 64 * i;
-        let count = before.wrapping_add(at as u64 + 64);
-        let next = compress(words, &block_at(message, at), count, false);
+    let mut count = before;
+    for block in &whole[..blocks] {
+        count = count.wrapping_add(64);
+        let next = compress(words, block, count, false);
         words = next;
     }
     words
@@ -51,10 +45,11 @@ fn finish(h: [u32; 8], before: u64, message: &[u8]) -> [u32; 8]
 }
 
 /// The words after a block, the message behind it and the end of the hash.
+#[tactic(auto, using(crate::proofs::Blocks::hashed_after, crate::proofs::Blocks::hashed_alone))]
 fn finish_after(h: [u32; 8], block: &[u8; 64], message: &[u8]) -> [u32; 8]
     ensures { result ≡ hashed_from 0 h (block.now ++ message.now) }
 {
-    if message.len() == 0 {
+    if message.is_empty() {
         return compress(h, block, 64, true);
     }
     finish(compress(h, block, 64, false), 64, message)

@@ -1,6 +1,9 @@
-//! Comparing tags, and the functions for other languages.
-use exports::{release_box_chacha20_encrypt, release_box_hmac_sha256, release_box_keyed_blake2s};
+//! Comparing tags, and what the functions for other languages are made of.
+use blake2s::code::KeyedBlake2s;
+use cipher::chacha::ChaChaCipher;
+use exports::{put_encrypted, put_tag};
 use mac::comparison::same_tag;
+use sha256::code::HmacSha256;
 
 #[test]
 fn tags_that_differ_in_one_bit(rt: HostRuntime) {
@@ -29,21 +32,18 @@ fn differences_do_not_cancel(rt: HostRuntime) {
 #[test]
 fn results_for_other_languages(rt: HostRuntime) {
     let mut out = [0xee; 32];
-    assert_eq!(rt; release_box_hmac_sha256(&[0; 32], &[], &mut out), 0);
+    assert_eq!(rt; put_tag(&HmacSha256, &[0; 32], &[], &mut out), 0);
     assert_eq!(rt; &out[0..4], [0xb6, 0x13, 0x67, 0x9a].as_slice());
-    assert_eq!(rt; release_box_keyed_blake2s(&[0; 32], &[], &mut out), 0);
+    assert_eq!(rt; put_tag(&KeyedBlake2s, &[0; 32], &[], &mut out), 0);
     assert_eq!(rt; &out[0..4], [0xcc, 0x8e, 0xd0, 0x46].as_slice());
-    release_box_chacha20_encrypt(&[0; 32], &[0; 32], &mut out);
+    put_encrypted(&ChaChaCipher, &[0; 32], &[0; 32], &mut out);
     assert_eq!(rt; &out[0..4], [0x76, 0xb8, 0xe0, 0xad].as_slice());
 }
 
 #[test]
 fn refusals_leave_the_result_as_it_was(rt: HostRuntime) {
     let mut out = [0xee; 32];
-    assert_eq!(rt; release_box_hmac_sha256(&[7; 32], &[1; 1025], &mut out), 18);
-    assert_eq!(rt;
-        release_box_keyed_blake2s(&[7; 32], &[1; 1025], &mut out),
-        18
-    );
+    assert_eq!(rt; put_tag(&HmacSha256, &[7; 32], &[1; 1025], &mut out), 18);
+    assert_eq!(rt; put_tag(&KeyedBlake2s, &[7; 32], &[1; 1025], &mut out), 18);
     assert_eq!(rt; &out[0..32], [0xee; 32].as_slice());
 }

@@ -1,5 +1,5 @@
 //! Examples that no command file reaches: lists in memory that is shorter than their limit, answers with a place, comparing
-//! tags, and the functions for other languages.
+//! tags, and what the functions for other languages are made of.
 #![tactic(auto)]
 
 #[cfg(test)]

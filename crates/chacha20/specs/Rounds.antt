@@ -1,7 +1,8 @@
 -- The rounds of ChaCha20: RFC 8439, sections 2.1 to 2.3.
-use Rattle.std.specs.Prelude.{ℕ, zero, suc, List, bit_xor, slice_index, slice_set}
+use Rattle.std.specs.Prelude.{ℕ, zero, suc, List, bit_xor}
 use Rattle.octets.specs.Words.{◌⊞◌, rotl}
-use Rattle.chacha20.specs.declared.rounds.Four.{Four}
+use Rattle.octets.specs.Quarters.{four_at, with_four}
+use Rattle.octets.specs.declared.quarters.Four.{Four}
 
 -- the quarter round
 abbrev pub quarter : Four → Four
@@ -18,9 +19,7 @@ quarter s =
 
 -- the quarter round on the words of the state at these places
 unfoldable pub quarter_at : List ℕ → ℕ → ℕ → ℕ → ℕ → List ℕ
-quarter_at s a b c d =
-    let four = quarter record { a = slice_index s a; b = slice_index s b; c = slice_index s c; d = slice_index s d } in
-    slice_set (slice_set (slice_set (slice_set s a four.a) b four.b) c four.c) d four.d
+quarter_at s a b c d = with_four s a b c d (quarter (four_at s a b c d))
 
 -- two rounds: columns, then diagonals
 abbrev pub double_round : List ℕ → List ℕ

@@ -1,11 +1,12 @@
-//! Ciphers of 32 bytes under a key of 32 bytes: what the box asks of one, one from ChaCha20, and one from any message
-//! authentication code.
+//! Ciphers of 32 bytes under a key of 32 bytes: what the box asks of one, one from any key stream, and the key streams of
+//! ChaCha20 and of any message authentication code.
 #![tactic(auto)]
 
 ghost use Rattle.std.specs.Prelude.{◌≡◌, ℕ, List, length};
 
 pub mod chacha;
 pub mod from_mac;
+pub mod key_stream;
 
 /// A cipher: it encrypts 32 bytes under a key of 32 bytes, and decrypts them again.
 pub trait Cipher {

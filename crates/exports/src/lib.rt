@@ -1,24 +1,17 @@
-//! What the box offers to other languages, on numbers and bytes. Where a call can be refused, its answer is 0 or the number
-//! of the refusal, and a refusal leaves `out` as it was. The static library `exports_c` gives these functions their symbols.
+//! What the functions for other languages are made of: a tag and an encrypted text, on numbers and bytes, of any code and of any
+//! cipher. The static library `exports_c` has them for the box's own under their symbols.
 #![tactic(auto)]
 
 ghost use Rattle.std.specs.Prelude.{◌≡◌};
-ghost use Rattle.blake2s.specs.Hashing.{blake2s};
-ghost use Rattle.octets.specs.Masks.{masked};
-ghost use Rattle.cipher.specs.Streams.{chacha_stream};
 ghost use Rattle.exports.specs.Answers.{answer_of, result_of};
-ghost use Rattle.hmac.specs.Hmac.{hmac_of};
 ghost use Rattle.mac.specs.Tagging.{tagged};
-ghost use Rattle.sha256.specs.Hashing.{sha256};
 
-use blake2s::code::KeyedBlake2s;
 use cipher::Cipher;
-use cipher::chacha::ChaChaCipher;
 use mac::Mac;
-use sha256::code::HmacSha256;
 
-/// Writes the tag of a message to `out`.
-fn put_tag<M: Mac>(mac: &M, key: &[u8; 32], message: &[u8], out: &mut [u8; 32]) -> u8
+/// Writes the tag of a message to `out`. Other languages know neither a `Result` nor an array that is returned: the answer is
+/// 0 or the number of the refusal, and a refusal leaves `out` as it was.
+pub fn put_tag<M: Mac>(mac: &M, key: &[u8; 32], message: &[u8], out: &mut [u8; 32]) -> u8
     ensures answer { result ≡ answer_of (tagged (M.Mac.limit mac.now) (M.Mac.tagof mac.now) key.now message.now) }
     ensures result { out.new ≡ result_of (tagged (M.Mac.limit mac.now) (M.Mac.tagof mac.now) key.now message.now) out.old }
 {
@@ -31,25 +24,9 @@ fn put_tag<M: Mac>(mac: &M, key: &[u8; 32], message: &[u8], out: &mut [u8; 32]) 
     }
 }
 
-/// The HMAC-SHA-256 tag of a message.
-pub fn release_box_hmac_sha256(key: &[u8; 32], message: &[u8], out: &mut [u8; 32]) -> u8
-    ensures answer { result ≡ answer_of (tagged 1024 (hmac_of sha256) key.now message.now) }
-    ensures result { out.new ≡ result_of (tagged 1024 (hmac_of sha256) key.now message.now) out.old }
+/// Writes to `out` what 32 bytes are encrypted to, which is never refused.
+pub fn put_encrypted<C: Cipher>(cipher: &C, key: &[u8; 32], plain: &[u8; 32], out: &mut [u8; 32])
+    ensures { out.new ≡ C.Cipher.encrypted cipher.now key.now plain.now }
 {
-    put_tag(&HmacSha256, key, message, out)
-}
-
-/// The keyed BLAKE2s tag of a message.
-pub fn release_box_keyed_blake2s(key: &[u8; 32], message: &[u8], out: &mut [u8; 32]) -> u8
-    ensures answer { result ≡ answer_of (tagged 1024 blake2s key.now message.now) }
-    ensures result { out.new ≡ result_of (tagged 1024 blake2s key.now message.now) out.old }
-{
-    put_tag(&KeyedBlake2s, key, message, out)
-}
-
-/// 32 bytes encrypted by the ChaCha20 cipher, which never refuses.
-pub fn release_box_chacha20_encrypt(key: &[u8; 32], plain: &[u8; 32], out: &mut [u8; 32])
-    ensures { out.new ≡ masked plain.now (chacha_stream key.now) }
-{
-    *out = ChaChaCipher.encrypt(key, plain);
+    *out = cipher.encrypt(key, plain);
 }

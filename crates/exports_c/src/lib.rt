@@ -1,4 +1,5 @@
-//! The static library: the functions of `exports` under their symbols for C and Rust, each with the clauses that it has there.
+//! The static library: the box's codes and its cipher under symbols for C and Rust. Where a call can be refused, its answer is 0
+//! or the number of the refusal, and a refusal leaves `out` as it was.
 #![tactic(auto)]
 
 ghost use Rattle.std.specs.Prelude.{◌≡◌};
@@ -10,13 +11,18 @@ ghost use Rattle.mac.specs.Tagging.{tagged};
 ghost use Rattle.octets.specs.Masks.{masked};
 ghost use Rattle.sha256.specs.Hashing.{sha256};
 
+use blake2s::code::KeyedBlake2s;
+use cipher::chacha::ChaChaCipher;
+use exports::{put_encrypted, put_tag};
+use sha256::code::HmacSha256;
+
 /// The HMAC-SHA-256 tag of a message.
 #[unsafe(no_mangle)]
 pub extern "C" fn release_box_hmac_sha256(key: &[u8; 32], message: &[u8], out: &mut [u8; 32]) -> u8
     ensures answer { result ≡ answer_of (tagged 1024 (hmac_of sha256) key.now message.now) }
     ensures result { out.new ≡ result_of (tagged 1024 (hmac_of sha256) key.now message.now) out.old }
 {
-    exports::release_box_hmac_sha256(key, message, out)
+    put_tag(&HmacSha256, key, message, out)
 }
 
 /// The keyed BLAKE2s tag of a message.
@@ -29,7 +35,7 @@ pub extern "C" fn release_box_keyed_blake2s(
     ensures answer { result ≡ answer_of (tagged 1024 blake2s key.now message.now) }
     ensures result { out.new ≡ result_of (tagged 1024 blake2s key.now message.now) out.old }
 {
-    exports::release_box_keyed_blake2s(key, message, out)
+    put_tag(&KeyedBlake2s, key, message, out)
 }
 
 /// 32 bytes encrypted by the ChaCha20 cipher, which never refuses.
@@ -37,5 +43,5 @@ pub extern "C" fn release_box_keyed_blake2s(
 pub extern "C" fn release_box_chacha20_encrypt(key: &[u8; 32], plain: &[u8; 32], out: &mut [u8; 32])
     ensures { out.new ≡ masked plain.now (chacha_stream key.now) }
 {
-    exports::release_box_chacha20_encrypt(key, plain, out)
+    put_encrypted(&ChaChaCipher, key, plain, out)
 }

@@ -5,6 +5,7 @@ ghost use Rattle.std.specs.Prelude.{◌≡◌, ℕ, List, ◌++◌};
 ghost use Rattle.hmac.specs.Hmac.{hmac_of, key_pad};
 
 use octets::block::block_at;
+use std::array;
 
 /// A hash that takes its message in blocks of 64 bytes and gives 32.
 pub trait BlockHash {
@@ -20,11 +21,8 @@ pub trait BlockHash {
 fn key_pad(key: &[u8; 32], pad: u8) -> [u8; 64]
     ensures { result ≡ key_pad key.now pad }
 {
-    let mut block = block_at(key, 0);
-    for i in 0..64 {
-        block[i] ^= pad;
-    }
-    block
+    let block = block_at(key, 0);
+    array::from_fn(|i| block[i] ^ pad)
 }
 
 /// The HMAC of a message under a key.

@@ -1,7 +1,7 @@
 -- Two lists are the same where no exclusive or of their bytes leaves anything.
-use Rattle.std.proofs.Common.{◌≡◌, ℕ, ◌+◌, ◌<◌, List, length, get_or, take, sym, ap, ◌∙◌, arith}
+use Rattle.std.proofs.Common.{◌≡◌, ℕ, List, [], ◌∷◌, length, refl, ap, ◌∙◌, subst, arith}
+use Rattle.std.specs.List.{fold, zip}
 use lib.Bits.{bit_or, bit_xor, and_le_l, and_le_r, or_add_and, xor_add_and, xor_self, or_zero_r}
-use Rattle.std.proofs.lemmas.List.{same_from_push, take_more, take_more_same}
 use Rattle.mac.specs.Differing.{Tells}
 
 zeros_of_or : (a b : ℕ) → bit_or a b ≡ 0 → (a ≡ 0) × (b ≡ 0)
@@ -18,13 +18,24 @@ same_of_xor a b e =
     let r = and_le_r a b in
     omega arith
 
--- one byte more
-pub tells_more : (d : ℕ) (xs ys : List ℕ) (i : ℕ) → i < length xs → i < length ys → Tells d (take i xs) (take i ys) → Tells (bit_or d (bit_xor (get_or xs i 0) (get_or ys i 0))) (take (i + 1) xs) (take (i + 1) ys)
-tells_more d xs ys i h k t =
-    let x = get_or xs i 0 in
-    let y = get_or ys i 0 in (
-      λ e. let z = zeros_of_or d (bit_xor x y) e in
-          take_more_same xs ys i 0 h k (t.0 z.0) (same_of_xor x y z.1),
-      λ e. let p = same_from_push (take i xs) (take i ys) x y (sym (take_more xs i 0 h) ∙ e ∙ take_more ys i 0 k) in
-          ap (λ n. bit_or d (bit_xor x n)) (sym p.1) ∙ ap (bit_or d) (xor_self x) ∙ or_zero_r d ∙ t.1 p.0,
-    )
+-- the bits of before, and those in which two bytes differ
+abbrev pub more_bits : ℕ → ℕ × ℕ → ℕ
+more_bits bits pair = bit_or bits (bit_xor pair.0 pair.1)
+
+same_where_none : (bits : ℕ) (xs ys : List ℕ) → length xs ≡ length ys → fold more_bits bits (zip xs ys) ≡ 0 → (bits ≡ 0) × (xs ≡ ys)
+same_where_none bits [] [] l e = (e, refl)
+same_where_none bits [] (y ∷ ys) l e = absurd (omega arith)
+same_where_none bits (x ∷ xs) [] l e = absurd (omega arith)
+same_where_none bits (x ∷ xs) (y ∷ ys) l e =
+    let rest = same_where_none (bit_or bits (bit_xor x y)) xs ys (omega arith) e in
+    let here = zeros_of_or bits (bit_xor x y) rest.0 in
+    (here.0, ap (λ z. z ∷ xs) (same_of_xor x y here.1) ∙ ap (λ zs. y ∷ zs) rest.1)
+
+none_where_same : (bits : ℕ) (xs : List ℕ) → fold more_bits bits (zip xs xs) ≡ bits
+none_where_same bits [] = refl
+none_where_same bits (x ∷ xs) =
+    none_where_same (bit_or bits (bit_xor x x)) xs ∙ ap (bit_or bits) (xor_self x) ∙ or_zero_r bits
+
+pub fold_tells : (xs ys : List ℕ) → length xs ≡ length ys → Tells (fold more_bits 0 (zip xs ys)) xs ys
+fold_tells xs ys l =
+    (λ e. (same_where_none 0 xs ys l e).1, λ e. subst (λ zs. fold more_bits 0 (zip xs zs) ≡ 0) e (none_where_same 0 xs))

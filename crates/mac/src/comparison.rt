@@ -7,11 +7,7 @@ ghost use Rattle.mac.specs.Differing.{Tells};
 fn difference(a: &[u8; 32], b: &[u8; 32]) -> u8
     ensures { Tells result a.now b.now }
 {
-    let mut bits = 0;
-    for i in 0..32 {
-        bits |= a[i] ^ b[i];
-    }
-    bits
+    a.iter().zip(b).fold(0, |bits, (x, y)| bits | (x ^ y))
 }
 
 /// Whether two tags are the same, in a time that does not depend on where they differ.

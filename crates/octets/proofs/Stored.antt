@@ -1,15 +1,21 @@
 -- Words of bytes and bytes of words, one word at a time.
-use Rattle.std.proofs.Common.{◌≡◌, ℕ, ◌+◌, ◌*◌, ◌<◌, List, [], ◌∷◌, ◌++◌, length, get_or, take, sym, refl, ap, ◌∙◌, append_assoc, add-one, arith}
-use Rattle.std.specs.List.{flat_map}
+use Rattle.std.proofs.Common.{◌≡◌, ℕ, zero, suc, ◌+◌, ◌*◌, ◌<◌, List, [], ◌∷◌, ◌++◌, map, length, get_or, take, sym, refl, ap, ◌∙◌, add-one, arith}
+use Rattle.std.specs.List.{flat_map, range_with_len}
 use Rattle.std.proofs.lemmas.List.{flat_map_more, length-append, take_more}
+use Rattle.std.proofs.lemmas.List.FromFn.{map-range_with_len_more}
 use Rattle.octets.specs.Order.{bytes_of}
 use Rattle.octets.specs.Words.{bytes_of_words, word_at, words_of}
 use Rattle.octets.specs.declared.order.ByteOrder.{ByteOrder}
 use Rattle.octets.specs.declared.order.ByteOrder.TheVariants.{HighFirst, LowFirst}
 
-pub words_of_more : (order : ByteOrder) (n : ℕ) (bytes : List ℕ) → words_of order (n + 1) bytes ≡ words_of order n bytes ++ word_at order bytes (4 * n) ∷ []
+-- the words, made one by one
+pub words_of_range : (order : ByteOrder) (n : ℕ) (bytes : List ℕ) → words_of order n bytes ≡ map (λ i. word_at order bytes (4 * i)) (range_with_len 0 n)
 unfolding words_of
-words_of_more order n bytes = ap (λ k. words_of order k bytes) (add-one n)
+words_of_range order zero bytes = refl
+words_of_range order (suc n) bytes =
+    ap (λ ws. ws ++ word_at order bytes (4 * n) ∷ []) (words_of_range order n bytes)
+    ∙ sym (map-range_with_len_more (λ i. word_at order bytes (4 * i)) 0 n n (omega arith))
+    ∙ ap (λ k. map (λ i. word_at order bytes (4 * i)) (range_with_len 0 k)) (add-one n)
 
 -- the bytes of one word more
 pub bytes_more : (order : ByteOrder) (words : List ℕ) (i : ℕ) → i < length words → bytes_of_words order (take (i + 1) words) ≡ bytes_of_words order (take i words) ++ bytes_of order (get_or words i 0)
@@ -27,9 +33,3 @@ length-bytes order (w ∷ ws) =
     let rest = length-bytes order ws in
     let both = length-append (bytes_of order w) (bytes_of_words order ws) in
     omega arith
-
--- the bytes of words and of the words behind them
-pub bytes_append : (order : ByteOrder) (xs ys : List ℕ) → bytes_of_words order xs ++ bytes_of_words order ys ≡ bytes_of_words order (xs ++ ys)
-bytes_append order [] ys = refl
-bytes_append order (x ∷ xs) ys =
-    append_assoc (bytes_of order x) (bytes_of_words order xs) (bytes_of_words order ys) ∙ ap (λ zs. bytes_of order x ++ zs) (bytes_append order xs ys)

@@ -1,14 +1,14 @@
 -- The last blocks of a message: what is left of it, the bit that follows, zeros, and the length.
-use Rattle.std.proofs.Common.{◌≡◌, ℕ, suc, ◌+◌, ◌-◌, ◌*◌, ◌/◌, ◌%◌, ◌^◌, ◌<◌, ◌≤◌, List, [], ◌∷◌, ◌++◌, length, take, drop, replicate, sym, ap, ◌∙◌, append_assoc, arith}
-use Rattle.std.proofs.lemmas.List.{drop-append-le, drop_at, drop-drop, length-append, length-drop, length-replicate, replicate-append-replicate, take_all, take_at}
+use Rattle.std.proofs.Common.{◌≡◌, ℕ, suc, ◌+◌, ◌-◌, ◌*◌, ◌/◌, ◌%◌, ◌^◌, ◌<◌, ◌≤◌, List, [], ◌∷◌, ◌++◌, length, take, replicate, sym, ap, ◌∙◌, append_assoc, arith}
+use Rattle.std.proofs.lemmas.List.{length-append, length-replicate, replicate-append-replicate, take_all}
 use Rattle.octets.specs.Laying.{filled}
 use Rattle.octets.proofs.Filled.{filled_few, length-filled, take-filled}
 use Rattle.sha256.specs.Compression.{compressed}
 use Rattle.sha256.specs.Hashing.{absorbed, absorbed_all, length_bytes, padding}
-use Rattle.sha256.proofs.Blocks.{absorbed_after, absorbed_front, absorbed_more}
+use Rattle.sha256.proofs.Blocks.{absorbed_after}
 
 -- the length is counted in 64 bits
-padding_wrapped : (count : ℕ) → padding (count % 2 ^ 64) ≡ padding count
+pub padding_wrapped : (count : ℕ) → padding (count % 2 ^ 64) ≡ padding count
 padding_wrapped count =
     let left : count % 2 ^ 64 % 64 ≡ count % 64 = omega arith in
     let bits : (count % 2 ^ 64 * 8) % 2 ^ 64 ≡ (count * 8) % 2 ^ 64 = omega arith in
@@ -57,70 +57,45 @@ length-padding count =
     let both = length-append (replicate ((119 - count % 64) % 64) 0) (length_bytes count) in
     omega arith
 
--- the whole blocks of a message, and what is left of it with the padding
-whole_blocks : (n : ℕ) (m p h : List ℕ) → 64 * n ≤ length m → (absorbed n (m ++ p) h ≡ absorbed n m h) × (drop (64 * n) (m ++ p) ≡ drop (64 * n) m ++ p)
-whole_blocks n m p h le = (absorbed_front n m p h le, drop-append-le (64 * n) m p le)
+-- a block alone
+absorbed_one : (a h : List ℕ) → length a ≡ 64 → absorbed 1 a h ≡ compressed h a
+unfolding absorbed
+absorbed_one a h e = ap (compressed h) (take_all 64 a (omega arith))
 
--- a message whose end and padding fit one block
-pub padded_short : (h m : List ℕ) (count : ℕ) → count % 64 ≡ length m % 64 → length m % 64 < 56 →
-    absorbed_all (m ++ padding count) h
-    ≡ compressed (absorbed (length m / 64) m h) (take 56 (filled 64 (marked (drop (64 * (length m / 64)) m))) ++ length_bytes count)
-padded_short h m count e lt =
-    let n = length m / 64 in
-    let rest = drop (64 * n) m in
-    let left = length-drop (64 * n) m in
-    let long = length-append m (padding count) in
+-- the end of a message, where it fits one block
+pub ended_short : (h rest : List ℕ) (count : ℕ) → count % 64 ≡ length rest → length rest < 56 → absorbed_all (rest ++ padding count) h ≡ compressed h (take 56 (filled 64 (marked rest)) ++ length_bytes count)
+ended_short h rest count e lt =
     let pad = length-padding count in
-    let blocks : length (m ++ padding count) / 64 ≡ n + 1 = omega arith in
     let end = length-append rest (padding count) in
-    let tail : length (rest ++ padding count) ≤ 64 = omega arith in
-    let parts = whole_blocks n m (padding count) h (omega arith) in
-    ap (λ k. absorbed k (m ++ padding count) h) blocks
-    ∙ absorbed_more n (m ++ padding count) h
-    ∙ ap (λ s. compressed s (take 64 (drop (64 * n) (m ++ padding count)))) parts.0
-    ∙ ap (λ xs. compressed (absorbed n m h) (take 64 xs)) parts.1
-    ∙ ap (compressed (absorbed n m h)) (take_all 64 (rest ++ padding count) tail ∙ one_block rest count (omega arith) (omega arith))
+    let blocks : length (rest ++ padding count) / 64 ≡ 1 = omega arith in
+    ap (λ k. absorbed k (rest ++ padding count) h) blocks
+    ∙ absorbed_one (rest ++ padding count) h (omega arith)
+    ∙ ap (compressed h) (one_block rest count e lt)
 
--- a message whose end and padding take two
-pub padded_long : (h m : List ℕ) (count : ℕ) → count % 64 ≡ length m % 64 → 56 ≤ length m % 64 →
-    absorbed_all (m ++ padding count) h
-    ≡ compressed (compressed (absorbed (length m / 64) m h) (filled 64 (marked (drop (64 * (length m / 64)) m)))) (replicate 56 0 ++ length_bytes count)
-padded_long h m count e le =
-    let n = length m / 64 in
-    let p = m ++ padding count in
-    let rest = drop (64 * n) m in
-    let left = length-drop (64 * n) m in
-    let long = length-append m (padding count) in
+-- and where it takes two
+pub ended_long : (h rest : List ℕ) (count : ℕ) → count % 64 ≡ length rest → 56 ≤ length rest → absorbed_all (rest ++ padding count) h ≡ compressed (compressed h (filled 64 (marked rest))) (replicate 56 0 ++ length_bytes count)
+ended_long h rest count e le =
     let pad = length-padding count in
+    let end = length-append rest (padding count) in
     let mark = length_marked rest in
-    let blocks : length p / 64 ≡ (n + 1) + 1 = omega arith in
-    let parts = whole_blocks n m (padding count) h (omega arith) in
+    let blocks : length (rest ++ padding count) / 64 ≡ 2 = omega arith in
     let first : List ℕ = filled 64 (marked rest) in
     let last : List ℕ = replicate 56 0 ++ length_bytes count in
-    let whole : length first ≡ 64 = length-filled 64 (marked rest) (omega arith) in
-    let split : drop (64 * n) p ≡ first ++ last = parts.1 ∙ two_blocks rest count (omega arith) (omega arith) (omega arith) in
-    let next : 64 * (n + 1) ≡ 64 * n + 64 = omega arith in
-    let second : drop (64 * (n + 1)) p ≡ last = ap (λ k. drop k p) next ∙ sym (drop-drop 64 (64 * n) p) ∙ ap (drop 64) split ∙ drop_at first last 64 whole in
-    ap (λ k. absorbed k p h) blocks
-    ∙ absorbed_more (n + 1) p h
-    ∙ ap (λ s. compressed s (take 64 (drop (64 * (n + 1)) p))) (absorbed_more n p h)
-    ∙ ap (λ s. compressed (compressed s (take 64 (drop (64 * n) p))) (take 64 (drop (64 * (n + 1)) p))) parts.0
-    ∙ ap (λ xs. compressed (compressed (absorbed n m h) (take 64 xs)) (take 64 (drop (64 * (n + 1)) p))) split
-    ∙ ap (λ xs. compressed (compressed (absorbed n m h) xs) (take 64 (drop (64 * (n + 1)) p))) (take_at first last 64 whole)
-    ∙ ap (λ xs. compressed (compressed (absorbed n m h) first) (take 64 xs)) second
-    ∙ ap (compressed (compressed (absorbed n m h) first)) (take_all 64 last (omega arith))
+    ap (λ k. absorbed k (rest ++ padding count) h) blocks
+    ∙ ap (λ xs. absorbed 2 xs h) (two_blocks rest count e le (omega arith))
+    ∙ absorbed_after 1 first last h (length-filled 64 (marked rest) (omega arith))
+    ∙ absorbed_one last (compressed h first) (length-append (replicate {A = ℕ} 56 0) (length_bytes count))
 
 -- a block in front of a message is taken first, and counted
-pub padded_after : (h a m : List ℕ) → length a ≡ 64 → absorbed_all (m ++ padding ((length m + 64) % 2 ^ 64)) (compressed h a) ≡ absorbed_all ((a ++ m) ++ padding (length (a ++ m))) h
+pub padded_after : (h a m : List ℕ) → length a ≡ 64 → absorbed_all (m ++ padding (64 + length m)) (compressed h a) ≡ absorbed_all ((a ++ m) ++ padding (length (a ++ m))) h
 padded_after h a m e =
     let both = length-append a m in
-    let count : length (a ++ m) ≡ length m + 64 = omega arith in
-    let p : List ℕ = m ++ padding (length m + 64) in
+    let count : length (a ++ m) ≡ 64 + length m = omega arith in
+    let p : List ℕ = m ++ padding (64 + length m) in
     let all = length-append a p in
     let blocks : length (a ++ p) / 64 ≡ suc (length p / 64) = omega arith in
-    ap (λ xs. absorbed_all (m ++ xs) (compressed h a)) (padding_wrapped (length m + 64))
-    ∙ sym
+    sym
     (ap (λ n. absorbed_all ((a ++ m) ++ padding n) h) count
-    ∙ ap (λ xs. absorbed_all xs h) (append_assoc a m (padding (length m + 64)))
+    ∙ ap (λ xs. absorbed_all xs h) (append_assoc a m (padding (64 + length m)))
     ∙ ap (λ n. absorbed n (a ++ p) h) blocks
     ∙ absorbed_after (length p / 64) a p h e)

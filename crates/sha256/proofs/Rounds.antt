@@ -1,7 +1,9 @@
--- The schedule and the rounds, one step at a time.
-use Rattle.std.proofs.Common.{◌≡◌, ℕ, suc, ◌+◌, List, [], ◌∷◌, ◌++◌, take, ap, ◌∙◌, add-suc, add-one, arith}
-use Rattle.std.proofs.lemmas.List.{get_or-take}
-use Rattle.sha256.specs.Compression.{eight_rounds, next_word, round_at, rounds, scheduled}
+-- The schedule, one word at a time, and the rounds, eight at a time.
+use Rattle.std.proofs.Common.{◌≡◌, ℕ, zero, suc, ◌+◌, ◌*◌, List, [], ◌∷◌, ◌++◌, length, take, drop, sym, refl, ap, ◌∙◌, add-one, arith}
+use Rattle.std.proofs.lemmas.List.{get_or-take, length-drop, length-take-le, take-append-drop}
+use Rattle.std.specs.List.{fold, zip}
+use Rattle.std.specs.Simd.{first_chunks}
+use Rattle.sha256.specs.Compression.{next_word, round, rounds, scheduled}
 
 pub scheduled_more : (n : ℕ) (block : List ℕ) → scheduled (n + 1) block ≡ scheduled n block ++ next_word (scheduled n block) n ∷ []
 unfolding scheduled
@@ -16,17 +18,22 @@ next_word-front w n =
     let d = get_or-take (n + 16) w n 0 (omega arith) in
     rw (a, b, c, d)
 
-rounds_more : (n : ℕ) (w s : List ℕ) → rounds (n + 1) w s ≡ round_at (rounds n w s) w n
-unfolding rounds
-rounds_more n w s = ap (λ k. rounds k w s) (add-one n)
+-- rounds, and more behind them
+rounds_behind : (ks ls ws vs s : List ℕ) → length ks ≡ length ws → rounds (ks ++ ls) (ws ++ vs) s ≡ rounds ls vs (rounds ks ws s)
+rounds_behind [] ls [] vs s e = refl
+rounds_behind [] ls (w ∷ ws) vs s e = absurd (omega arith)
+rounds_behind (k ∷ ks) ls [] vs s e = absurd (omega arith)
+rounds_behind (k ∷ ks) ls (w ∷ ws) vs s e = rounds_behind ks ls ws vs (round s k w) (omega arith)
 
--- a round behind n + k others
-round_behind : (n k : ℕ) (w s r : List ℕ) → rounds (n + k) w s ≡ r → rounds (n + suc k) w s ≡ round_at r w (n + k)
-unfolding rounds
-round_behind n k w s r e = ap (λ j. rounds j w s) (add-suc n k) ∙ ap (λ t. round_at t w (n + k)) e
-
--- eight rounds more
-pub rounds_eight : (n : ℕ) (w s : List ℕ) → rounds (n + 8) w s ≡ eight_rounds (rounds n w s) w n
-rounds_eight n w s =
-    round_behind n 7 w s _ (round_behind n 6 w s _ (round_behind n 5 w s _ (round_behind n 4 w s _
-    (round_behind n 3 w s _ (round_behind n 2 w s _ (round_behind n 1 w s _ (rounds_more n w s)))))))
+-- n times eight rounds
+pub rounds_by_eights : (n : ℕ) (ks ws s : List ℕ) → length ks ≡ n * 8 → length ws ≡ n * 8 → fold (λ r p. rounds p.0 p.1 r) s (zip (first_chunks 8 n ks) (first_chunks 8 n ws)) ≡ rounds ks ws s
+rounds_by_eights zero [] ws s e f = refl
+rounds_by_eights zero (k ∷ ks) ws s e f = absurd (omega arith)
+rounds_by_eights (suc n) ks ws s e f =
+    let ks_left = length-drop 8 ks in
+    let ws_left = length-drop 8 ws in
+    let same : length (take 8 ks) ≡ length (take 8 ws) = length-take-le 8 ks (omega arith) ∙ sym (length-take-le 8 ws (omega arith)) in
+    rounds_by_eights n (drop 8 ks) (drop 8 ws) (rounds (take 8 ks) (take 8 ws) s) (omega arith) (omega arith)
+    ∙ sym (rounds_behind (take 8 ks) (drop 8 ks) (take 8 ws) (drop 8 ws) s same)
+    ∙ ap (λ xs. rounds xs (take 8 ws ++ drop 8 ws) s) (take-append-drop 8 ks)
+    ∙ ap (λ xs. rounds ks xs s) (take-append-drop 8 ws)

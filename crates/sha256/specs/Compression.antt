@@ -1,5 +1,6 @@
 -- One block into the hash's words: FIPS 180-4, section 6.2.2.
 use Rattle.std.specs.Prelude.{ℕ, zero, suc, ◌+◌, List, [], ◌∷◌, ◌++◌, map, slice_index, slice_index_or}
+use Rattle.std.specs.List.{fold, zip}
 use Rattle.octets.specs.Words.{◌⊞◌, words_of}
 use Rattle.octets.specs.declared.order.ByteOrder.TheVariants.{HighFirst}
 use Rattle.sha256.specs.Functions.{ch, maj, big_sigma0, big_sigma1, small_sigma0, small_sigma1}
@@ -15,7 +16,7 @@ scheduled zero block = block
 scheduled (suc n) block = scheduled n block ++ next_word (scheduled n block) n ∷ []
 
 -- one round, on the words a to h, with its constant k and its word w of the schedule
-abbrev pub round : List ℕ → ℕ → ℕ → List ℕ
+unfoldable pub round : List ℕ → ℕ → ℕ → List ℕ
 round s k w =
     let a = slice_index_or s 0 0 in let b = slice_index_or s 1 0 in let c = slice_index_or s 2 0 in let d = slice_index_or s 3 0 in
     let e = slice_index_or s 4 0 in let f = slice_index_or s 5 0 in let g = slice_index_or s 6 0 in let h = slice_index_or s 7 0 in
@@ -23,29 +24,12 @@ round s k w =
     let t2 = big_sigma0 a ⊞ maj a b c in
     (t1 ⊞ t2) ∷ a ∷ b ∷ c ∷ (d ⊞ t1) ∷ e ∷ f ∷ g ∷ []
 
--- round number n, over the schedule w
-unfoldable pub round_at : List ℕ → List ℕ → ℕ → List ℕ
-round_at s w n = round s (slice_index round_constants n) (slice_index w n)
-
--- the first n rounds
-unfoldable pub rounds : ℕ → List ℕ → List ℕ → List ℕ
-rounds zero w s = s
-rounds (suc n) w s = round_at (rounds n w s) w n
-
--- eight rounds from number n on
-abbrev pub eight_rounds : List ℕ → List ℕ → ℕ → List ℕ
-eight_rounds s w n =
-    let s1 = round_at s w n in
-    let s2 = round_at s1 w (n + 1) in
-    let s3 = round_at s2 w (n + 2) in
-    let s4 = round_at s3 w (n + 3) in
-    let s5 = round_at s4 w (n + 4) in
-    let s6 = round_at s5 w (n + 5) in
-    let s7 = round_at s6 w (n + 6) in
-    round_at s7 w (n + 7)
+-- rounds: one for each of the constants ks and of the words ws of the schedule
+abbrev pub rounds : List ℕ → List ℕ → List ℕ → List ℕ
+rounds ks ws s = fold (λ r p. round r p.0 p.1) s (zip ks ws)
 
 -- the hash's words after one block more
 abbrev pub compressed : List ℕ → List ℕ → List ℕ
 compressed h block =
-    let s = rounds 64 (scheduled 48 (words_of HighFirst 16 block)) h in
+    let s = rounds round_constants (scheduled 48 (words_of HighFirst 16 block)) h in
     map (λ i. slice_index_or h i 0 ⊞ slice_index_or s i 0) (0 ∷ 1 ∷ 2 ∷ 3 ∷ 4 ∷ 5 ∷ 6 ∷ 7 ∷ [])

@@ -1,5 +1,7 @@
 -- The hash of a whole message: FIPS 180-4, section 5.1.1 (padding) and section 6.2.
-use Rattle.std.specs.Prelude.{ℕ, zero, suc, ◌-◌, ◌*◌, ◌/◌, ◌%◌, ◌^◌, List, [], ◌∷◌, ◌++◌, length, take, drop, replicate}
+use Rattle.std.specs.Prelude.{ℕ, ◌-◌, ◌*◌, ◌/◌, ◌%◌, ◌^◌, List, [], ◌∷◌, ◌++◌, length, replicate}
+use Rattle.std.specs.List.{fold}
+use Rattle.std.specs.Simd.{first_chunks}
 use Rattle.octets.specs.Words.{bytes_of_words}
 use Rattle.octets.specs.declared.order.ByteOrder.TheVariants.{HighFirst}
 use Rattle.sha256.specs.Compression.{compressed}
@@ -18,8 +20,7 @@ padding count = 0x80 ∷ (replicate ((119 - count % 64) % 64) 0 ++ length_bytes 
 
 -- the words after the first n blocks
 unfoldable pub absorbed : ℕ → List ℕ → List ℕ → List ℕ
-absorbed zero bytes h = h
-absorbed (suc n) bytes h = compressed (absorbed n bytes h) (take 64 (drop (64 * n) bytes))
+absorbed n bytes h = fold compressed h (first_chunks 64 n bytes)
 
 -- the words after all blocks
 abbrev pub absorbed_all : List ℕ → List ℕ → List ℕ

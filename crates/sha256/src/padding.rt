@@ -1,27 +1,18 @@
 //! The end of a message: the bit that follows it, and its length.
-ghost use Rattle.std.specs.Prelude.{◌≡◌, ◌-◌, ◌*◌, ◌/◌, ◌<◌, ◌≤◌, [], ◌∷◌, ◌++◌, length, take, drop};
+ghost use Rattle.std.specs.Prelude.{◌≡◌, ◌<◌, [], ◌∷◌, ◌++◌, length, take};
 ghost use Rattle.octets.specs.Laying.{filled};
 ghost use Rattle.sha256.specs.Hashing.{length_bytes};
 
 use octets::block::block_at;
-use octets::laying::lay;
-
-/// The last bytes of a message, from `at` on, and a byte behind them, filled up with zeros to a block.
-fn followed_by(message: &[u8], at: usize, byte: u8) -> [u8; 64]
-    requires within { at ≤ length message.now }
-    requires room { length message.now - at < 64 }
-    ensures { result ≡ filled 64 (drop at message.now ++ byte ∷ []) }
-{
-    let mut block = block_at(message, at);
-    block[message.len() - at] = byte;
-    block
-}
 
 /// What a message has behind its whole blocks, and the bit that follows the message, filled up with zeros to a block.
-pub(crate) fn mark_end(message: &[u8]) -> [u8; 64]
-    ensures { result ≡ filled 64 (drop (64 * (length message.now / 64)) message.now ++ 0x80 ∷ []) }
+pub(crate) fn mark_end(rest: &[u8]) -> [u8; 64]
+    requires { length rest.now < 64 }
+    ensures { result ≡ filled 64 (rest.now ++ 0x80 ∷ []) }
 {
-    followed_by(message, 64 * (message.len() / 64), 0x80)
+    let mut block = block_at(rest, 0);
+    block[rest.len()] = 0x80;
+    block
 }
 
 /// The length in bits of a message of `count` bytes.
@@ -32,10 +23,9 @@ fn length_bytes(count: u64) -> [u8; 8]
 }
 
 /// The block with the length of a message of `count` bytes at its end.
-pub(crate) fn with_length(block: [u8; 64], count: u64) -> [u8; 64]
+pub(crate) fn with_length(mut block: [u8; 64], count: u64) -> [u8; 64]
     ensures { result ≡ take 56 block ++ length_bytes count }
 {
-    let mut last = block;
-    lay(&mut last, 56, &length_bytes(count));
-    last
+    block[56..].copy_from_slice(&length_bytes(count));
+    block
 }

@@ -1,18 +1,14 @@
-use Rattle.std.proofs.Common.{sym, ◌∙◌, arith}
-use Rattle.std.proofs.lemmas.List.{take_all}
-use Rattle.mac.proofs.Differences.{tells_more}
+use Rattle.std.proofs.Common.{subst, sym, ◌∙◌, rules}
+use Rattle.std.proofs.lemmas.Iterator.{YieldsList-from_slice, YieldsList-from_zip}
+use Rattle.std.proofs.lemmas.Iterator.Consumers.{fold_from_yields_List}
+use Rattle.mac.specs.Differing.{Tells}
+use Rattle.mac.proofs.Differences.{fold_tells, more_bits}
 use Rattle.mac.proofs.comparison.difference.Goals as goal
-
-pub loop-i-preserved : goal.loop-i-preserved
-loop-i-preserved c =
-    let a = c.told-a in
-    let b = c.told-b in
-    tells_more c.loop-i.bits c.args.a.now c.args.b.now c.loop-i.i (omega arith) (omega arith) c.loop-i.invariant
 
 pub returns : goal.returns
 returns c =
-    let la = c.told-a in
-    let lb = c.told-b in
-    let a = take_all c.loop-i.i c.args.a.now (omega arith) in
-    let b = take_all c.loop-i.i c.args.b.now (omega arith) in
-    (λ e. sym a ∙ c.loop-i.invariant.0 e ∙ b, λ e. c.loop-i.invariant.1 (a ∙ e ∙ sym b))
+    let a = c.args.a.now in
+    let b = c.args.b.now in
+    subst (λ bits. Tells bits a b)
+    (sym (fold_from_yields_List _ more_bits 0 c.fold.result c.fold.ensures.ran (YieldsList-from_zip (YieldsList-from_slice a (cc)) (YieldsList-from_slice b (cc))) (λ bits pair r q call. search rules)))
+    (fold_tells a b (c.told-a ∙ sym c.told-b))

@@ -1,12 +1,18 @@
-use Rattle.std.proofs.Common.{◌≡◌, ◌+◌, [], ◌∷◌, ◌++◌, take, set, sym, ap, ◌∙◌, arith, rules}
-use Rattle.std.proofs.lemmas.List.{length-set, take_all, take_more_set}
+use Rattle.std.proofs.Common.{ℕ, List, length, replicate, ◌≡◌, ◌+◌, [], ◌∷◌, ◌++◌, take, set, sym, ap, ◌∙◌, arith}
+use Rattle.std.proofs.lemmas.List.{length-append, length-set, take_all, take_at, take_more_set}
 use Rattle.sha256.specs.Compression.{next_word, scheduled}
 use Rattle.sha256.proofs.Rounds.{next_word-front, scheduled_more}
 use Rattle.sha256.proofs.schedule.schedule.Goals as goal
 
 pub loop-i-init : goal.loop-i-init
 unfolding scheduled
-loop-i-init c = (search rules, c.begin-words.ensures)
+loop-i-init c =
+    let zeros : List ℕ = replicate 48 0 in
+    let b = c.told-block in
+    let l : length c.copy_from_slice.new.self ≡ 16 = c.copy_from_slice.ensures.len in (
+      length-append c.copy_from_slice.new.self zeros ∙ ap (λ n. n + 48) l,
+      take_at c.copy_from_slice.new.self zeros 16 l ∙ c.copy_from_slice.ensures.after,
+    )
 
 pub loop-i-preserved : goal.loop-i-preserved
 loop-i-preserved c =
