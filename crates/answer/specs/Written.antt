@@ -1,8 +1,7 @@
 -- What is written for an answer.
-use Rattle.std.specs.Prelude.{ℕ, List, [], ◌∷◌, ◌++◌, Some, None, decimal, Option}
+use Rattle.std.specs.Prelude.{ℕ, List, [], ◌∷◌, ◌++◌, Some, None, Ok, Err, Option, Result, decimal}
 use Rattle.refusal.specs.Numbers.{number_of, place_of}
-use Rattle.answer.specs.declared.Answer.{Answer}
-use Rattle.answer.specs.declared.Answer.TheVariants.{Done, Refused}
+use Rattle.refusal.specs.declared.Refusal.{Refusal}
 
 -- a tab and the place, for a refusal that has one
 abbrev pub place_text : Option ℕ → List ℕ
@@ -10,10 +9,10 @@ place_text None = []
 place_text (Some place) = 9 ∷ decimal place
 
 -- "ok", or the refusal's number with its place
-abbrev pub told : Answer → List ℕ
-told Done = 111 ∷ 107 ∷ []
-told (Refused r) = decimal (number_of r) ++ place_text (place_of r)
+abbrev pub told : Result (Unit {0}) Refusal → List ℕ
+told (Ok u) = 111 ∷ 107 ∷ []
+told (Err r) = decimal (number_of r) ++ place_text (place_of r)
 
 -- the line's number, a tab, the answer, a line feed
-abbrev pub line_for : ℕ → Answer → List ℕ
+abbrev pub line_for : ℕ → Result (Unit {0}) Refusal → List ℕ
 line_for number answer = decimal number ++ (9 ∷ (told answer ++ (10 ∷ [])))

@@ -5,11 +5,5 @@ pub mod line;
 
 use refusal::Refusal;
 
-/// What a line of a command file comes to.
-#[derive(Clone, Copy)]
-pub enum Answer {
-    /// It was carried out.
-    Done,
-    /// It was turned down, and changed nothing.
-    Refused(Refusal),
-}
+/// What a line of a command file comes to: it was carried out, or it was turned down and changed nothing.
+pub type Answer = Result<(), Refusal>;

@@ -10,21 +10,21 @@ use std::test::Fail;
 #[test]
 fn reports(rt: HostRuntime) {
     let cases: [(u64, Answer, &[u8]); 5] = [
-        (1, Answer::Done, b"1\tok\n"),
-        (10, Answer::Refused(Refusal::AlreadyListed), b"10\t19\n"),
+        (1, Ok(()), b"1\tok\n"),
+        (10, Err(Refusal::AlreadyListed), b"10\t19\n"),
         (
             11,
-            Answer::Refused(Refusal::LengthOutOfLimits { token: 0 }),
+            Err(Refusal::LengthOutOfLimits { token: 0 }),
             b"11\t4\t0\n",
         ),
         (
             12,
-            Answer::Refused(Refusal::ReferenceUnanswered { caveat: 2 }),
+            Err(Refusal::ReferenceUnanswered { caveat: 2 }),
             b"12\t26\t2\n",
         ),
         (
             u64::MAX,
-            Answer::Refused(Refusal::WrongSeat { token: usize::MAX }),
+            Err(Refusal::WrongSeat { token: usize::MAX }),
             b"18446744073709551615\t7\t18446744073709551615\n",
         ),
     ];

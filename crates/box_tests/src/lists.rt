@@ -67,7 +67,7 @@ fn offices_by_their_range(rt: HostRuntime) {
         lists::add_office(&mut offices, 257, [0; 32]),
         Err(Refusal::WrongOffice)
     );
-    for number in 1..5 {
+    for number in 1..=4 {
         assert_eq!(rt; lists::add_office(&mut offices, number, [0; 32]), Ok(()));
     }
     assert_eq!(rt;

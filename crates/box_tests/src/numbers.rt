@@ -12,8 +12,8 @@ fn numbers_and_places(rt: HostRuntime) {
         Refusal::TooManyCaveats { token: 3 },
         Refusal::WrongSeat { token: 3 },
     ];
-    for (i, refusal) in placed.iter().enumerate() {
-        assert_eq!(rt; usize::from(refusal.number()), i + 1);
+    for (refusal, number) in placed.iter().zip(1u8..) {
+        assert_eq!(rt; refusal.number(), number);
         assert_eq!(rt; refusal.place(), Some(3));
     }
     let plain = [
@@ -35,8 +35,8 @@ fn numbers_and_places(rt: HostRuntime) {
         Refusal::OtherAccount,
         Refusal::WrongSignature,
     ];
-    for (i, refusal) in plain.iter().enumerate() {
-        assert_eq!(rt; usize::from(refusal.number()), i + 8);
+    for (refusal, number) in plain.iter().zip(8u8..) {
+        assert_eq!(rt; refusal.number(), number);
         assert_eq!(rt; refusal.place(), None);
     }
     assert_eq!(rt; Refusal::ConditionFails { caveat: 5 }.number(), 25);

@@ -8,7 +8,7 @@ use Rattle.notation.specs.Hex.{bytes_in}
 use Rattle.command.specs.declared.Command.{Command}
 use Rattle.command.specs.declared.Command.TheVariants.{Scheme, Account, Office, Sheet}
 use Rattle.command.specs.declared.Scheme.{Scheme as Schemes}
-use Rattle.command.specs.declared.Scheme.TheVariants.{HmacSha256, Blake2s}
+use Rattle.command.specs.Schemes.{scheme_numbered}
 
 -- a command with the bytes that its parts of the line hold
 abbrev pub spoken : Command (Bor (List ℕ)) → Command (List ℕ)
@@ -24,10 +24,9 @@ number16 field = number_in 65535 field
 abbrev pub number32 : List ℕ → Option ℕ
 number32 field = number_in 4294967295 field
 
--- scheme 1 or 2
 abbrev pub scheme_of : Option ℕ → Option Schemes
 scheme_of None = None
-scheme_of (Some n) = cond (n == 1) (Some HmacSha256) (cond (n == 2) (Some Blake2s) None)
+scheme_of (Some number) = scheme_numbered number
 
 -- what the fields of a line hold, the letter among them: each command has so many
 abbrev pub scheme_line : List (List ℕ) → Option Schemes

@@ -1,6 +1,5 @@
 -- The line of a file, as far as it can be read: nothing of one that has more than 10,240 bytes.
-use Rattle.std.specs.Prelude.{ℕ, Bool, false, cond, List, [], ◌∷◌, ◌++◌, length, take, Some, None, Option, ◌==◌, nat_le}
-use Rattle.command.specs.declared.line.LineBuffer.{LineBuffer}
+use Rattle.std.specs.Prelude.{ℕ, Bool, false, cond, List, [], ◌∷◌, ◌++◌, length, Some, None, Option, ◌==◌, nat_le}
 
 abbrev pub line_in : List ℕ → Option (List ℕ)
 line_in line = cond (nat_le (length line) 10240) (Some line) None
@@ -14,7 +13,3 @@ longer (Some line) byte = line_in (line ++ byte ∷ [])
 abbrev pub is_blank : Option (List ℕ) → Bool
 is_blank None = false
 is_blank (Some line) = length line == 0
-
--- the line that a buffer holds
-abbrev pub line_of : LineBuffer → Option (List ℕ)
-line_of b = cond b.too_long None (Some (take b.len b.bytes))

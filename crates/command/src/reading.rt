@@ -1,14 +1,12 @@
 //! Reading a line: its letter chooses the command, and each command has its own fields.
 ghost use Rattle.std.specs.Prelude.{◌≡◌};
 ghost use Rattle.std.specs.Option.{option_map};
-ghost use Rattle.notation.specs.Fields.{fields_of};
-ghost use Rattle.notation.specs.Hex.{bytes_in};
-ghost use Rattle.command.specs.Lines.{line_of};
 ghost use Rattle.command.specs.Commands.{asked, command_in, spoken, number_and_key, scheme_line, sheet_line};
 
 use crate::line::LineBuffer;
 use crate::{Command, Scheme};
-use notation::{decimal, fields, hex};
+use notation::fields::Fields;
+use notation::{decimal, hex};
 
 /// Fields are parted by tabs.
 const TAB: u8 = b'\t';
@@ -17,83 +15,65 @@ const TAB: u8 = b'\t';
 pub fn read(line: &[u8]) -> Option<Command<&[u8]>>
     ensures { option_map spoken result ≡ command_in line.now }
 {
-    let letter = fields::nth(line, TAB, 0);
-    if letter.len() != 1 {
+    let fields = Fields::new(line, TAB);
+    let [letter] = fields.nth(0) else {
         return None;
-    }
-    match letter[0] as char {
-        'S' => Some(Command::Scheme(read_scheme(line)?)),
+    };
+    match char::from(*letter) {
+        'S' => Some(Command::Scheme(read_scheme(&fields)?)),
         'A' => {
-            let (number, key) = read_number_and_key(line)?;
+            let (number, key) = read_number_and_key(&fields)?;
             Some(Command::Account { number, key })
         }
         'O' => {
-            let (number, key) = read_number_and_key(line)?;
+            let (number, key) = read_number_and_key(&fields)?;
             Some(Command::Office { number, key })
         }
-        'F' => read_sheet(line),
+        'F' => read_sheet(&fields),
         _ => None,
     }
 }
 
 /// The command that the line in a buffer spells, if it spells one.
 pub fn read_buffer(buffer: &LineBuffer) -> Option<Command<&[u8]>>
-    ensures { option_map spoken result ≡ asked (line_of buffer.now) }
+    ensures { option_map spoken result ≡ asked buffer.now }
 {
-    match buffer.text() {
-        Some(line) => read(line),
-        None => None,
-    }
+    read(buffer.text()?)
 }
 
 /// The scheme: 1 or 2.
-fn read_scheme(line: &[u8]) -> Option<Scheme>
-    ensures { result ≡ scheme_line (fields_of 9 line.now) }
+fn read_scheme(fields: &Fields<'_>) -> Option<Scheme>
+    ensures { result ≡ scheme_line fields.now }
 {
-    if fields::count(line, TAB) != 2 {
+    if fields.count() != 2 {
         return None;
     }
-    match decimal::read_u16(fields::nth(line, TAB, 1))? {
-        1 => Some(Scheme::HmacSha256),
-        2 => Some(Scheme::Blake2s),
-        _ => None,
-    }
+    let number = decimal::read_as::<u16>(fields.nth(1))?;
+    Scheme::try_from(number).ok()
 }
 
 /// The number and the key of an account or an office.
-fn read_number_and_key(line: &[u8]) -> Option<(u16, [u8; 32])>
-    ensures { result ≡ number_and_key (fields_of 9 line.now) }
+fn read_number_and_key(fields: &Fields<'_>) -> Option<(u16, [u8; 32])>
+    ensures { result ≡ number_and_key fields.now }
 {
-    if fields::count(line, TAB) != 3 {
+    if fields.count() != 3 {
         return None;
     }
-    let number = decimal::read_u16(fields::nth(line, TAB, 1))?;
-    let key = read_key(fields::nth(line, TAB, 2))?;
+    let number = decimal::read_as(fields.nth(1))?;
+    let key = hex::decode_array(fields.nth(2))?;
     Some((number, key))
 }
 
-/// A key: 64 hexadecimal digits.
-fn read_key(digits: &[u8]) -> Option<[u8; 32]>
-    ensures { result ≡ bytes_in 32 digits.now }
-{
-    let mut key = [0; 32];
-    if hex::decode(digits, &mut key) {
-        Some(key)
-    } else {
-        None
-    }
-}
-
 /// The path, account and cards of a sheet file.
-fn read_sheet(line: &[u8]) -> Option<Command<&[u8]>>
-    ensures { option_map spoken result ≡ sheet_line (fields_of 9 line.now) }
+fn read_sheet<'a>(fields: &Fields<'a>) -> Option<Command<&'a [u8]>>
+    ensures { option_map spoken result ≡ sheet_line fields.now }
 {
-    if fields::count(line, TAB) != 4 {
+    if fields.count() != 4 {
         return None;
     }
-    let path = fields::nth(line, TAB, 1);
-    let account = decimal::read_u16(fields::nth(line, TAB, 2))?;
-    let cards = decimal::read_u32(fields::nth(line, TAB, 3))?;
+    let path = fields.nth(1);
+    let account = decimal::read_as(fields.nth(2))?;
+    let cards = decimal::read_as(fields.nth(3))?;
     Some(Command::Sheet {
         path,
         account,

@@ -1,4 +1,3 @@
 pub mod Number
-pub mod Numeral
+pub mod Folded
 pub mod Nibbles
-pub mod Parts

@@ -1,12 +1,7 @@
 -- The fields of a line.
-use Rattle.std.specs.Prelude.{ℕ, cond, List, [], ◌∷◌, ◌==◌}
-
--- a byte before the first of these fields
-abbrev pub onto : ℕ → List (List ℕ) → List (List ℕ)
-onto b [] = (b ∷ []) ∷ []
-onto b (f ∷ fs) = (b ∷ f) ∷ fs
+use Rattle.std.specs.Prelude.{ℕ, List, ◌==◌}
+use Rattle.std.specs.List.{slice_split}
 
 -- the parts between separators: a line without one is one field, and a field may be empty
 abbrev pub fields_of : ℕ → List ℕ → List (List ℕ)
-fields_of separator [] = [] ∷ []
-fields_of separator (b ∷ bs) = cond (b == separator) ([] ∷ fields_of separator bs) (onto b (fields_of separator bs))
+fields_of separator line = slice_split (λ byte. byte == separator) line

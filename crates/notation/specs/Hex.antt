@@ -1,17 +1,18 @@
 -- Which bytes are hexadecimal, and which bytes they spell.
-use Rattle.std.specs.Prelude.{ℕ, zero, suc, ◌+◌, ◌-◌, ◌*◌, Bool, true, cond, ◌&&◌, ◌||◌, List, [], ◌∷◌, ◌++◌, length, Some, None, Option, ◌==◌, nat_le, slice_index}
+use Rattle.std.specs.Prelude.{ℕ, zero, suc, ◌+◌, ◌-◌, ◌*◌, Bool, cond, ◌&&◌, List, [], ◌∷◌, ◌++◌, length, Some, None, Option, ◌==◌, nat_le, slice_index}
+use Rattle.std.specs.Char.{is_ascii_hexdigit}
+use Rattle.std.specs.List.{list_all}
 
 -- the digits '0' to '9', 'A' to 'F' and 'a' to 'f'
 abbrev pub is_hex : ℕ → Bool
-is_hex c = (nat_le 48 c && nat_le c 57) || ((nat_le 65 c && nat_le c 70) || (nat_le 97 c && nat_le c 102))
+is_hex c = is_ascii_hexdigit c
 
 -- the value of such a digit
 abbrev pub hex_value : ℕ → ℕ
 hex_value c = cond (nat_le c 57) (c - 48) (cond (nat_le c 70) (c - 55) (c - 87))
 
 abbrev pub all_hex : List ℕ → Bool
-all_hex [] = true
-all_hex (c ∷ cs) = is_hex c && all_hex cs
+all_hex cs = list_all is_hex cs
 
 -- the first n bytes that digits spell: byte k stands at digits 2 k and 2 k + 1, the high one first
 unfoldable pub spelled_bytes : ℕ → List ℕ → List ℕ

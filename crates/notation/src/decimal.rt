@@ -1,6 +1,6 @@
 //! Decimal numbers: one or more digits and nothing else, with any number of leading zeros.
-ghost use Rattle.std.specs.Prelude.{◌≡◌, ◌+◌, ◌-◌, ◌*◌, ◌≤◌, ◌&&◌, take, drop, IfSome, if◌then◌else◌, Some, None, decimal, nat_le};
-ghost use Rattle.notation.specs.Decimal.{is_digit, number_in};
+ghost use Rattle.std.specs.Prelude.{◌≡◌, ℕ, ◌+◌, ◌-◌, ◌*◌, ◌≤◌, ◌&&◌, take, drop, IfSome, if◌then◌else◌, Some, None, decimal, nat_le};
+ghost use Rattle.notation.specs.Decimal.{is_digit, number_in, number_as};
 
 /// The most digits that a 64-bit number has.
 pub const MOST_DIGITS: usize = 20;
@@ -10,63 +10,79 @@ pub fn read(digits: &[u8], most: u64) -> Option<u64>
     ensures value { result ≡ number_in most digits.now }
     ensures bound { IfSome result (λ n. n ≤ most) }
 {
-    if digits.len() == 0 {
+    if digits.is_empty() {
         return None;
     }
-    let mut n = 0u64;
-    for digit in digits {
-        n = append(n, *digit, most)?;
-    }
-    Some(n)
+    digits
+        .iter()
+        .try_fold(0, |number, digit| append(number, *digit, most))
 }
 
 /// The number with one digit more at its end, if the byte is a digit and the number is at most `most`.
-fn append(n: u64, digit: u8, most: u64) -> Option<u64>
-    ensures { result ≡ (if is_digit digit && nat_le (n * 10 + (digit - 48)) most then Some (n * 10 + (digit - 48)) else None) }
+fn append(number: u64, digit: u8, most: u64) -> Option<u64>
+    ensures { result ≡ (if is_digit digit && nat_le (number * 10 + (digit - 48)) most then Some (number * 10 + (digit - 48)) else None) }
 {
-    if digit < b'0' || digit > b'9' {
-        return None;
-    }
-    let longer = n.checked_mul(10)?.checked_add(u64::from(digit - b'0'))?;
-    if longer > most {
-        return None;
-    }
-    Some(longer)
+    let digit = char::from(digit).to_digit(10)?;
+    let longer = number.checked_mul(10)?.checked_add(u64::from(digit))?;
+    (longer <= most).then_some(longer)
 }
 
-/// The number that these bytes spell, if it has at most 16 bits.
-pub fn read_u16(digits: &[u8]) -> Option<u16>
-    ensures { result ≡ number_in 65535 digits.now }
-{
-    let n = read(digits, 65535)?;
-    Some(n as u16)
+/// An unsigned type, of whose numbers decimal digits may be read.
+pub trait Unsigned: Sized {
+    /// The greatest number of the type.
+    const MOST: u64;
+
+    ghost MOST: { ℕ };
+
+    // what a number is in the type, if it is not over the greatest
+    ghost in_type: { ℕ → Self };
+
+    /// This number in the type.
+    fn narrow(number: u64) -> Self
+        requires { number ≤ MOST }
+        ensures { result ≡ in_type number };
 }
 
-/// The number that these bytes spell, if it has at most 32 bits.
-pub fn read_u32(digits: &[u8]) -> Option<u32>
-    ensures { result ≡ number_in 4294967295 digits.now }
+impl Unsigned for u16 {
+    const MOST: u64 = u16::MAX as u64;
+
+    ghost MOST = { 65535 };
+
+    ghost in_type = { λ number. number };
+
+    fn narrow(number: u64) -> u16 {
+        number as u16
+    }
+}
+
+impl Unsigned for u32 {
+    const MOST: u64 = u32::MAX as u64;
+
+    ghost MOST = { 4294967295 };
+
+    ghost in_type = { λ number. number };
+
+    fn narrow(number: u64) -> u32 {
+        number as u32
+    }
+}
+
+/// The number that these bytes spell, if it is one of the type.
+pub fn read_as<N: Unsigned>(digits: &[u8]) -> Option<N>
+    ensures { result ≡ number_as N.in_type N.MOST digits.now }
 {
-    let n = read(digits, 4294967295)?;
-    Some(n as u32)
+    let number = read(digits, N::MOST)?;
+    Some(N::narrow(number))
 }
 
 /// Writes the number, without leading zeros, to the end of `out`, and says where it begins there. What stands before it
 /// stays.
-pub fn write(number: u64, out: &mut [u8; 20]) -> usize
+pub fn write(number: u64, out: &mut [u8; MOST_DIGITS]) -> usize
     ensures digits { drop result out.new ≡ decimal number }
     ensures before { take result out.new ≡ take result out.old }
     ensures bound { result ≤ 20 }
 {
-    // the last digit first, so that each has its place before it is known how many there are
-    let mut rest = number;
-    let mut start = MOST_DIGITS - 1;
-    while rest >= 10 {
-        out[start] = b'0' + (rest % 10) as u8;
-        rest /= 10;
-        start -= 1;
-    }
-    out[start] = b'0' + rest as u8;
-    start
+    itoa::write_digits(number, out, MOST_DIGITS)
 }
 
 #[cfg(test)]
@@ -98,10 +114,10 @@ mod tests {
     fn reads_in_bounds(rt: HostRuntime) {
         assert_eq!(rt; read(b"0010", 10), Some(10));
         assert_eq!(rt; read(b"11", 10), None);
-        assert_eq!(rt; read_u16(b"65535"), Some(65535));
-        assert_eq!(rt; read_u16(b"65536"), None);
-        assert_eq!(rt; read_u32(b"4294967295"), Some(4294967295));
-        assert_eq!(rt; read_u32(b"4294967296"), None);
+        assert_eq!(rt; read_as(b"65535"), Some(65535u16));
+        assert_eq!(rt; read_as::<u16>(b"65536"), None);
+        assert_eq!(rt; read_as(b"4294967295"), Some(4294967295u32));
+        assert_eq!(rt; read_as::<u32>(b"4294967296"), None);
     }
 
     #[test]

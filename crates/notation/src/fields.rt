@@ -1,46 +1,51 @@
 //! Fields of a line, parted by a separator: one separator more makes one field more, and a field may be empty.
-ghost use Rattle.std.specs.Prelude.{◌≡◌, ◌≤◌, [], length, slice_index_or};
+ghost use Rattle.std.specs.Prelude.{◌≡◌, [], length, slice_index_or};
 ghost use Rattle.notation.specs.Fields.{fields_of};
 
-/// How many fields a line has: at least one.
-pub fn count(line: &[u8], separator: u8) -> usize
-    ensures { result ≡ length (fields_of separator line.now) }
-{
-    let mut fields = 1;
-    for byte in line {
-        if *byte == separator {
-            fields += 1;
-        }
-    }
-    fields
+use std::marker::Model;
+
+/// The fields of a line. A clause sees them as a list.
+#[derive(Drop)]
+pub struct Fields<'a> {
+    line: &'a [u8],
+    separator: u8,
 }
 
-/// The field at this place, counted from 0; empty where the line has not so many.
-pub fn nth(line: &[u8], separator: u8, place: usize) -> &[u8]
-    ensures { result.now ≡ slice_index_or (fields_of separator line.now) place [] }
-{
-    let mut rest = line;
-    for _i in 0..place {
-        let end = until(rest, separator);
-        if end == rest.len() {
-            return &line[0..0];
-        }
-        rest = &rest[end + 1..];
-    }
-    &rest[0..until(rest, separator)]
+impl<'a> Model for Fields<'a> {
+    ghost use Rattle.std.specs.Prelude.{ℕ, List};
+    ghost use Rattle.notation.specs.Fields.{fields_of};
+
+    ghost Value = { List (List ℕ) };
+
+    ghost view = { λ fields. fields_of fields.separator fields.line.now };
 }
 
-/// How long the first field is: where its separator stands, or the length of the line.
-fn until(line: &[u8], separator: u8) -> usize
-    ensures value { result ≡ length (slice_index_or (fields_of separator line.now) 0 []) }
-    ensures within { result ≤ length line.now }
-{
-    for (i, byte) in line.iter().enumerate() {
-        if *byte == separator {
-            return i;
-        }
+impl<'a> Fields<'a> {
+    /// The fields between the separators of a line.
+    pub fn new(line: &'a [u8], separator: u8) -> Fields<'a>
+        ensures { result ≡ fields_of separator line.now }
+    {
+        Fields { line, separator }
     }
-    line.len()
+
+    /// How many there are: at least one.
+    pub fn count(&self) -> usize
+        ensures { result ≡ length self.now }
+    {
+        let separator = self.separator;
+        self.line.split(|byte| *byte == separator).count()
+    }
+
+    /// The field at this place, counted from 0; empty where there are not so many.
+    pub fn nth(&self, place: usize) -> &'a [u8]
+        ensures { result.now ≡ slice_index_or self.now place [] }
+    {
+        let separator = self.separator;
+        self.line
+            .split(|byte| *byte == separator)
+            .nth(place)
+            .unwrap_or_default()
+    }
 }
 
 #[cfg(test)]
@@ -57,7 +62,7 @@ mod tests {
             (b"||\xff\xfe|", 4),
         ];
         for (line, fields) in cases {
-            assert_eq!(rt; count(line, b'|'), fields);
+            assert_eq!(rt; Fields::new(line, b'|').count(), fields);
         }
     }
 
@@ -74,8 +79,8 @@ mod tests {
             (b"|\xff|", 1, b"\xff"),
             (b"|\xff|", 2, b""),
         ];
-        for (line, place, field) in cases {
-            assert_eq!(rt; nth(line, b'|', place), field);
+        for (line, at, field) in cases {
+            assert_eq!(rt; Fields::new(line, b'|').nth(at), field);
         }
     }
 }

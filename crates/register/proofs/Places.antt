@@ -1,45 +1,31 @@
--- Looking for a name from row to row, and what a name that is not found says of each of them.
-use Rattle.std.proofs.Common.{◌≡◌, ℕ, zero, suc, ◌+◌, ◌<◌, Bool, true, false, cond, List, [], ◌∷◌, map, length, get_or, drop, Some, None, Option, sym, refl, ap, ◌∙◌, le_of_suc-le-suc, arith}
+-- Looking for a name among those of rows, and what a name that is not found says of each of them.
+use Rattle.std.proofs.Common.{◌≡◌, ℕ, ◌+◌, ◌<◌, Bool, true, false, cond, not, ltb, List, [], ◌∷◌, map, length, get_or, Some, None, refl, ap, arith}
 use Rattle.std.proofs.lemmas.Slice.Eq.{bytes_eq-Decides}
-use Rattle.std.proofs.lemmas.List.{at_drop_more}
-use Rattle.std.proofs.lemmas.Bool.{both_ways}
+use Rattle.std.proofs.lemmas.Bool.{both_ways, ltb-false}
+use Rattle.std.proofs.lemmas.List.{length-map}
+use Rattle.std.proofs.lemmas.List.Sums.{fails_before_first}
+use Rattle.std.specs.List.{position, position_or_len}
 use Rattle.std.specs.Str.{bytes_eq}
-use Rattle.register.specs.Names.{place_from}
+use Rattle.register.specs.Names.{place_in}
 
--- the row at i answers by itself, or leaves it to those behind it
-at_row : {X : Type 0} (name : X → List ℕ) (sought : List ℕ) (rows : List X) (i : ℕ) (x : X) (same : Bool)
-    → i < length rows
-    → x ≡ get_or rows i x
-    → same ≡ bytes_eq (name x) sought
-    → place_from i sought (map name (drop i rows)) ≡ cond same (Some i) (place_from (i + 1) sought (map name (drop (i + 1) rows)))
-at_row name sought rows i x same h is e =
-    at_drop_more (λ rs. place_from i sought (map name rs)) rows i x h
-    ∙ ap (λ b. cond b (Some i) (place_from (i + 1) sought (map name (drop (i + 1) rows)))) (ap (λ y. bytes_eq (name y) sought) (sym is) ∙ sym e)
+first-map : {X Y : Type 0} (f : X → Y) (p : Y → Bool) (xs : List X) → position_or_len p (map f xs) ≡ position_or_len (λ x. p (f x)) xs
+first-map f p [] = refl
+first-map f p (x ∷ xs) = ap (λ n. cond (not (p (f x))) (1 + n) 0) (first-map f p xs)
 
-pub here : {X : Type 0} (name : X → List ℕ) (sought : List ℕ) (rows : List X) (i : ℕ) (x : X)
-    → i < length rows
-    → x ≡ get_or rows i x
-    → true ≡ bytes_eq (name x) sought
-    → place_from i sought (map name (drop i rows)) ≡ Some i
-here name sought rows i x = at_row name sought rows i x true
+-- the rows' names are looked through where the rows are
+pub position-map : {X Y : Type 0} (f : X → Y) (p : Y → Bool) (xs : List X) → position p (map f xs) ≡ position (λ x. p (f x)) xs
+position-map f p xs = λ j. cond (ltb (first-map f p xs j) (length-map xs f j)) (Some (first-map f p xs j)) None
 
-pub further : {X : Type 0} (name : X → List ℕ) (sought : List ℕ) (rows : List X) (i : ℕ) (x : X)
-    → i < length rows
-    → x ≡ get_or rows i x
-    → false ≡ bytes_eq (name x) sought
-    → place_from i sought (map name (drop i rows)) ≡ place_from (i + 1) sought (map name (drop (i + 1) rows))
-further name sought rows i x = at_row name sought rows i x false
-
-passed_over : (same : Bool) (i : ℕ) (behind : Option ℕ) → cond same (Some i) behind ≡ None → (same ≡ false) × (behind ≡ None)
-passed_over true i behind e = let z : ◌≡◌ {A = ℕ} 0 1 = cc in absurd (omega arith)
-passed_over false i behind e = (refl, e)
+none_lem : (i n : ℕ) (below : Bool) → ltb i n ≡ below → cond below (Some i) None ≡ None → below ≡ false
+none_lem i n true e z = let o : ◌≡◌ {A = ℕ} 0 1 = cc in absurd (omega arith)
+none_lem i n false e z = refl
 
 -- a name that is not found is that of no row
-pub absent : (i : ℕ) (sought : List ℕ) (names : List (List ℕ))
-    → place_from i sought names ≡ None
+pub absent : (sought : List ℕ) (names : List (List ℕ))
+    → place_in sought names ≡ None
     → (k : ℕ) → k < length names → get_or names k [] ≡ sought → ⊥
-absent i sought [] e k h same = omega arith
-absent i sought (n ∷ ns) e zero h same =
-    both_ways _ (passed_over (bytes_eq n sought) i _ e).0 ((bytes_eq-Decides n sought).1 same)
-absent i sought (n ∷ ns) e (suc k) h same =
-    absent (i + 1) sought ns (passed_over (bytes_eq n sought) i _ e).1 k (le_of_suc-le-suc h) same
+absent sought names e k h same =
+    let p = λ (name : List ℕ). bytes_eq name sought in
+    let first = position_or_len p names in
+    let over = ltb-false first (length names) (none_lem first (length names) (ltb first (length names)) refl e) in
+    both_ways _ (fails_before_first p names k [] (omega arith)) ((bytes_eq-Decides (get_or names k []) sought).1 same)

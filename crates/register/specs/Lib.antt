@@ -1,4 +1,5 @@
 pub mod Names
-pub mod Sheets
+pub mod Paths
+pub mod Table
 pub mod Adding
 pub mod Listing

@@ -1,24 +1,22 @@
-//! The three kinds of rows. A row's default stands in memory that is not in use yet, and means nothing.
+//! The rows of the three lists. A row's default stands in memory that is not in use yet, and means nothing.
 ghost use Rattle.std.specs.Prelude.{[], ◌∷◌};
-ghost use Rattle.register.specs.Listing.{account_name, most_accounts, most_offices, most_sheets, office_name};
-ghost use Rattle.register.specs.Sheets.{path_of};
+ghost use Rattle.register.specs.Listing.{most_accounts, most_offices, most_sheets, number_name};
 
 use crate::path::SheetPath;
 use crate::row::Row;
 
-/// An account and its key.
+/// What has a number and a key.
 #[derive(Clone, Copy, Default)]
-pub struct Account {
-    pub number: u16,
+pub struct Keyed<N> {
+    pub number: N,
     pub key: [u8; 32],
 }
 
+/// An account and its key.
+pub type Account = Keyed<u16>;
+
 /// A proof office and its key.
-#[derive(Clone, Copy, Default)]
-pub struct Office {
-    pub number: u8,
-    pub key: [u8; 32],
-}
+pub type Office = Keyed<u8>;
 
 /// A sheet file: its path, the account that may have it freed, and how many cards it prints.
 #[derive(Clone, Copy, Default)]
@@ -31,7 +29,7 @@ pub struct Sheet {
 impl Row for Account {
     type Key = u16;
 
-    ghost name = { account_name };
+    ghost name = { number_name };
 
     ghost sought = { λ number. number ∷ [] };
 
@@ -53,7 +51,7 @@ impl Row for Account {
 impl Row for Office {
     type Key = u8;
 
-    ghost name = { office_name };
+    ghost name = { number_name };
 
     ghost sought = { λ number. number ∷ [] };
 
@@ -75,9 +73,9 @@ impl Row for Office {
 impl Row for Sheet {
     type Key = SheetPath;
 
-    ghost name = { λ s. path_of s.path };
+    ghost name = { λ s. s.path };
 
-    ghost sought = { path_of };
+    ghost sought = { λ path. path };
 
     ghost most = { most_sheets };
 
@@ -90,6 +88,6 @@ impl Row for Sheet {
     }
 
     fn is_named(&self, path: &SheetPath) -> bool {
-        self.path.as_bytes() == path.as_bytes()
+        self.path == *path
     }
 }

@@ -1,10 +1,23 @@
 -- The lines of a file when one byte more is taken.
-use Rattle.std.proofs.Common.{◌≡◌, ℕ, ◌+◌, ◌-◌, ◌≤◌, List, [], ◌∷◌, ◌++◌, length, get_or, take, sym, refl, ap, ◌∙◌, ⊎_elim, arith}
+use Rattle.std.proofs.Common.{◌≡◌, ℕ, eqb, ◌+◌, ◌-◌, ◌≤◌, List, [], ◌∷◌, ◌++◌, length, get_or, take, sym, refl, ap, ◌∙◌, ⊎_elim, arith}
 use Rattle.std.proofs.lemmas.List.{length_push, take_at, get_or_push, take-append-drop, drop_more, drop_all, length-take-le}
 use Rattle.std.proofs.lemmas.Bool.{cases_eq}
-use Rattle.notation.specs.Fields.{fields_of, onto}
-use Rattle.notation.proofs.Parts.{at_separator, at_other, at_end, some_field, length-onto}
+use Rattle.std.proofs.lemmas.Bool.{eq-eqb, ne_eqb}
+use Rattle.std.proofs.lemmas.List.Splits.{slice_split-cons_yes, slice_split-cons_no, length-slice_split}
+use Rattle.std.proofs.lemmas.List.Sums.{count_by-le-length}
+use Rattle.std.specs.List.{onto_first}
+use Rattle.notation.specs.Fields.{fields_of}
 use Rattle.session.specs.Files.{parts, ended_lines, remainder}
+
+-- the first byte of some parts
+at_separator : (s b : ℕ) (bs : List ℕ) → b ≡ s → fields_of s (b ∷ bs) ≡ [] ∷ fields_of s bs
+at_separator s b bs e = slice_split-cons_yes (λ x. eqb x s) b bs (eq-eqb b s e)
+
+at_other : (s b : ℕ) (bs : List ℕ) → (b ≡ s → ⊥) → fields_of s (b ∷ bs) ≡ onto_first b (fields_of s bs)
+at_other s b bs ne = slice_split-cons_no (λ x. eqb x s) b bs (ne_eqb b s ne)
+
+some_field : (s : ℕ) (bs : List ℕ) → 1 ≤ length (fields_of s bs)
+some_field s bs = omega (arith, length-slice_split (λ x. eqb x s) bs)
 
 -- a byte behind the last of these parts
 abbrev pushed : ℕ → List (List ℕ) → List (List ℕ)
@@ -16,18 +29,18 @@ pushed_under : (b : ℕ) (p : List ℕ) (ps : List (List ℕ)) → 1 ≤ length 
 pushed_under b p [] h = absurd (omega arith)
 pushed_under b p (q ∷ ps) h = refl
 
-pushed_onto : (b c : ℕ) (ps : List (List ℕ)) → 1 ≤ length ps → pushed b (onto c ps) ≡ onto c (pushed b ps)
+pushed_onto : (b c : ℕ) (ps : List (List ℕ)) → 1 ≤ length ps → pushed b (onto_first c ps) ≡ onto_first c (pushed b ps)
 pushed_onto b c [] h = absurd (omega arith)
 pushed_onto b c (p ∷ []) h = refl
 pushed_onto b c (p ∷ (q ∷ ps)) h = refl
 
-onto_push : (c : ℕ) (ps : List (List ℕ)) (q : List ℕ) → 1 ≤ length ps → onto c (ps ++ q ∷ []) ≡ onto c ps ++ q ∷ []
+onto_push : (c : ℕ) (ps : List (List ℕ)) (q : List ℕ) → 1 ≤ length ps → onto_first c (ps ++ q ∷ []) ≡ onto_first c ps ++ q ∷ []
 onto_push c [] q h = absurd (omega arith)
 onto_push c (p ∷ ps) q h = refl
 
 -- a separator begins a part, and any other byte goes to the last one
 separated : (s : ℕ) (xs : List ℕ) → fields_of s (xs ++ s ∷ []) ≡ fields_of s xs ++ [] ∷ []
-separated s [] = at_separator s s [] refl ∙ ap (λ (ps : List (List ℕ)). [] ∷ ps) (at_end s) ∙ sym (ap (λ (ps : List (List ℕ)). ps ++ [] ∷ []) (at_end s))
+separated s [] = at_separator s s [] refl
 separated s (x ∷ xs) =
     ⊎_elim
     (λ e.
@@ -36,13 +49,13 @@ separated s (x ∷ xs) =
     ∙ sym (ap (λ (ps : List (List ℕ)). ps ++ [] ∷ []) (at_separator s x xs e)))
     (λ ne.
     at_other s x (xs ++ s ∷ []) ne
-    ∙ ap (onto x) (separated s xs)
+    ∙ ap (onto_first x) (separated s xs)
     ∙ onto_push x (fields_of s xs) [] (some_field s xs)
     ∙ sym (ap (λ (ps : List (List ℕ)). ps ++ [] ∷ []) (at_other s x xs ne)))
     (cases_eq x s)
 
 lengthened : (s b : ℕ) (xs : List ℕ) → (b ≡ s → ⊥) → fields_of s (xs ++ b ∷ []) ≡ pushed b (fields_of s xs)
-lengthened s b [] other = at_other s b [] other ∙ ap (onto b) (at_end s) ∙ sym (ap (pushed b) (at_end s))
+lengthened s b [] other = at_other s b [] other
 lengthened s b (x ∷ xs) other =
     ⊎_elim
     (λ e.
@@ -52,7 +65,7 @@ lengthened s b (x ∷ xs) other =
     ∙ sym (ap (pushed b) (at_separator s x xs e)))
     (λ ne.
     at_other s x (xs ++ b ∷ []) ne
-    ∙ ap (onto x) (lengthened s b xs other)
+    ∙ ap (onto_first x) (lengthened s b xs other)
     ∙ sym (pushed_onto b x (fields_of s xs) (some_field s xs))
     ∙ sym (ap (pushed b) (at_other s x xs ne)))
     (cases_eq x s)
@@ -117,13 +130,7 @@ count_lines file =
 pub count_more : (file : List ℕ) (b : ℕ) → (b ≡ 10 → ⊥) → length (parts (file ++ b ∷ [])) ≡ length (parts file)
 count_more file b other = count_lines (file ++ b ∷ []) ∙ ap (λ (ls : List (List ℕ)). 1 + length ls) (lines_more file b other) ∙ sym (count_lines file)
 
-few_parts : (s : ℕ) (xs : List ℕ) → length (fields_of s xs) ≤ length xs + 1
-few_parts s [] = omega (arith, ap length (at_end s))
-few_parts s (x ∷ xs) =
-    ⊎_elim
-    (λ e. omega (arith, ap length (at_separator s x xs e), few_parts s xs))
-    (λ ne. omega (arith, ap length (at_other s x xs ne), length-onto x s xs, few_parts s xs))
-    (cases_eq x s)
-
 pub count_bound : (file : List ℕ) → length (parts file) ≤ length file + 1
-count_bound file = few_parts 10 file
+count_bound file =
+    let newline = λ (b : ℕ). eqb b 10 in
+    omega (arith, length-slice_split newline file, count_by-le-length newline file)

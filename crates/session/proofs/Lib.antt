@@ -1,5 +1,3 @@
-pub mod Grown
 pub mod Cut
 pub mod Told
 pub mod Taken
-pub mod Kept

@@ -1,9 +1,9 @@
 -- A run when one byte more is taken, on each way through it.
-use Rattle.std.proofs.Common.{◌≡◌, ℕ, ◌+◌, ◌-◌, ◌^◌, ◌<◌, min, Bool, true, false, cond, leb, List, [], ◌∷◌, ◌++◌, length, Some, None, sym, refl, ap, ◌∙◌, ⊎_elim, arith}
+use Rattle.std.proofs.Common.{◌≡◌, ℕ, ◌+◌, ◌-◌, ◌^◌, ◌<◌, min, Bool, true, false, cond, leb, List, [], ◌∷◌, ◌++◌, length, Some, None, Result, sym, refl, ap, ◌∙◌, ⊎_elim, arith}
 use Rattle.std.proofs.lemmas.List.{append-nil, length_push}
 use Rattle.std.proofs.lemmas.Bool.{cases_eq, cond-true, cond-false, leb-false, lt-leb}
 use Rattle.answer.specs.Written.{line_for}
-use Rattle.answer.specs.declared.Answer.{Answer}
+use Rattle.refusal.specs.declared.Refusal.{Refusal}
 use Rattle.command.specs.Commands.{asked}
 use Rattle.command.specs.Lines.{line_in, longer}
 use Rattle.session.specs.Files.{parts, ended_lines, remainder, after, printed, reply_to}
@@ -48,7 +48,7 @@ pub line_answered : (start : State) (file : List ℕ) (state state' : State)
 line_answered start file state state' at next =
     next ∙ ap (λ (x : State). (reply_to x (remainder file)).after) at ∙ sym (after_end start file)
 
-pub line_printed : (start : State) (file : List ℕ) (state : State) (number : ℕ) (answer : Answer) (text : List ℕ)
+pub line_printed : (start : State) (file : List ℕ) (state : State) (number : ℕ) (answer : Result (Unit {0}) Refusal) (text : List ℕ)
     → state ≡ after start (ended_lines file)
     → has_ended state ≡ false
     → number ≡ length (parts file)

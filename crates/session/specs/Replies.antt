@@ -1,20 +1,18 @@
 -- What the lines of a command file set up, and the reply to a line.
-use Rattle.std.specs.Prelude.{ℕ, min, Bool, true, false, List, [], ◌∷◌, ◌++◌, map, length, take, Some, None, Option}
+use Rattle.std.specs.Prelude.{◌≡◌, ℕ, min, Bool, true, false, List, [], ◌∷◌, ◌++◌, map, Some, None, Ok, Err, Option, Result}
 use Rattle.refusal.specs.Checks.{Check, first_refused}
 use Rattle.refusal.specs.declared.Refusal.{Refusal}
 use Rattle.refusal.specs.declared.Refusal.TheVariants.{UnreadableLine}
 use Rattle.register.specs.Adding.{new_row}
-use Rattle.register.specs.Listing.{Listing, account_name, listing, most_accounts, most_offices, most_sheets, office_checks, office_name, path_checks}
-use Rattle.register.specs.declared.rows.Account.{Account as Accounts}
-use Rattle.register.specs.declared.rows.Office.{Office as Offices}
-use Rattle.answer.specs.declared.Answer.{Answer}
-use Rattle.answer.specs.declared.Answer.TheVariants.{Done, Refused}
+use Rattle.register.specs.Listing.{most_accounts, most_offices, most_sheets, number_name, office_checks, path_checks}
+use Rattle.register.specs.Table.{Table, room}
+use Rattle.register.specs.declared.rows.Keyed.{Keyed}
+use Rattle.register.specs.declared.rows.Sheet.{Sheet as Sheets}
 use Rattle.command.specs.declared.Command.{Command}
 use Rattle.command.specs.declared.Command.TheVariants.{Scheme, Account, Office, Sheet}
 use Rattle.command.specs.declared.Scheme.{Scheme as Schemes}
 use Rattle.session.specs.declared.setup.Phase.{Phase}
 use Rattle.session.specs.declared.setup.Phase.TheVariants.{Start, Lists, Ended}
-use Rattle.session.specs.declared.setup.Setup.{Setup}
 
 -- a list: its rows in the order in which they were added, and how many there is room for
 pub record Rows (X : Type 0) : Type 0 where
@@ -24,9 +22,9 @@ pub record Rows (X : Type 0) : Type 0 where
 -- how far the run has come, and the lists
 pub record State : Type 0 where
   pub phase : Phase
-  pub accounts : Rows Accounts
-  pub offices : Rows Offices
-  pub sheets : Rows Listing
+  pub accounts : Rows (Keyed ℕ)
+  pub offices : Rows (Keyed ℕ)
+  pub sheets : Rows Sheets
 
 -- before the first line, where memory has so many rows for each list
 abbrev pub fresh : ℕ → ℕ → ℕ → State
@@ -37,36 +35,37 @@ fresh accounts offices sheets = record {
   sheets = record { rows = []; room = min most_sheets sheets };
 }
 
--- the list that a register of this kind holds, by the rows of its memory
-abbrev pub rows_in : {X : Type 0} → ℕ → ℕ → List X → Rows X
-rows_in most used memory = record { rows = take used memory; room = min most (length memory) }
+-- the list that a register of this kind holds
+abbrev pub rows_in : {X : Type 0} → ℕ → Table X → Rows X
+rows_in most table = record { rows = table.listed; room = room most table }
 
--- the same list, each row by what it shows
-abbrev pub shown : {X V : Type 0} → (X → V) → Rows X → Rows V
-shown view list = record { rows = map view list.rows; room = list.room }
-
--- the state that code holds
-abbrev pub state_of : Setup → State
-state_of s = record {
-  phase = s.phase;
-  accounts = rows_in most_accounts s.accounts.used s.accounts.rows.now;
-  offices = rows_in most_offices s.offices.used s.offices.rows.now;
-  sheets = shown listing (rows_in most_sheets s.sheets.used s.sheets.rows.now);
+-- the state that is held in a phase and three registers
+abbrev pub state_in : Phase → Table (Keyed ℕ) → Table (Keyed ℕ) → Table Sheets → State
+state_in phase accounts offices sheets = record {
+  phase = phase;
+  accounts = rows_in most_accounts accounts;
+  offices = rows_in most_offices offices;
+  sheets = rows_in most_sheets sheets;
 }
 
 -- the answer to a line, and the state after it
 pub record Reply : Type 0 where
-  pub answer : Answer
+  pub answer : Result (Unit {0}) Refusal
   pub after : State
 
+-- a reply is given: with this answer, and this state after it
+pub record Gives (reply : Reply) (told : Result (Unit {0}) Refusal) (left : State) : Type 0 where
+  pub answer : told ≡ reply.answer
+  pub after : left ≡ reply.after
+
 -- the answer to a call, by its refusal if it is refused
-abbrev pub answer_of : Option Refusal → Answer
-answer_of None = Done
-answer_of (Some r) = Refused r
+abbrev pub answer_of : Option Refusal → Result (Unit {0}) Refusal
+answer_of None = Ok tt
+answer_of (Some r) = Err r
 
 -- a line that cannot be read, or is out of place
 abbrev pub unreadable : State → Reply
-unreadable s = record { answer = Refused UnreadableLine; after = s }
+unreadable s = record { answer = Err UnreadableLine; after = s }
 
 -- the refusal of a new row, if it is refused: by a check of its own, since its name is listed, or for want of room
 abbrev pub refusal : {X : Type 0} → (X → List ℕ) → List Check → X → Rows X → Option Refusal
@@ -84,22 +83,22 @@ added put name own row list = record {
   after = put (extended (refusal name own row list) row list);
 }
 
-abbrev pub with_accounts : State → Rows Accounts → State
+abbrev pub with_accounts : State → Rows (Keyed ℕ) → State
 with_accounts s list = record { phase = s.phase; accounts = list; offices = s.offices; sheets = s.sheets }
 
-abbrev pub with_offices : State → Rows Offices → State
+abbrev pub with_offices : State → Rows (Keyed ℕ) → State
 with_offices s list = record { phase = s.phase; accounts = s.accounts; offices = list; sheets = s.sheets }
 
-abbrev pub with_sheets : State → Rows Listing → State
+abbrev pub with_sheets : State → Rows Sheets → State
 with_sheets s list = record { phase = s.phase; accounts = s.accounts; offices = s.offices; sheets = list }
 
 -- a command while the lists are filled: the scheme is chosen already, so choosing it again is out of place
 abbrev pub listed : State → Command (List ℕ) → Reply
 listed s (Scheme scheme) = unreadable s
-listed s (Account number key) = added (with_accounts s) account_name [] record { number = number; key = key } s.accounts
-listed s (Office number key) = added (with_offices s) office_name (office_checks number) record { number = number; key = key } s.offices
+listed s (Account number key) = added (with_accounts s) number_name [] record { number = number; key = key } s.accounts
+listed s (Office number key) = added (with_offices s) number_name (office_checks number) record { number = number; key = key } s.offices
 listed s (Sheet path account cards) =
-    added (with_sheets s) (λ l. l.path) (path_checks path) record { path = path; account = account; cards = cards } s.sheets
+    added (with_sheets s) (λ s. s.path) (path_checks path) record { path = path; account = account; cards = cards } s.sheets
 
 -- the scheme that a first line chooses, if it does
 abbrev pub chosen : Option (Command (List ℕ)) → Option Schemes
@@ -114,8 +113,8 @@ in_phase p s = record { phase = p; accounts = s.accounts; offices = s.offices; s
 
 -- a first line: it chooses the scheme, or the run ends with it
 abbrev pub begun : State → Option Schemes → Reply
-begun s None = record { answer = Refused UnreadableLine; after = in_phase Ended s }
-begun s (Some scheme) = record { answer = Done; after = in_phase (Lists scheme) s }
+begun s None = record { answer = Err UnreadableLine; after = in_phase Ended s }
+begun s (Some scheme) = record { answer = Ok tt; after = in_phase (Lists scheme) s }
 
 -- a line that follows
 abbrev pub later_line : State → Option (Command (List ℕ)) → Reply

@@ -1,12 +1,11 @@
 //! A run over a file, byte by byte: the line being read, its number, and what the lines before it have set up.
-ghost use Rattle.std.specs.Prelude.{◌≡◌, ℕ, ◌+◌, ◌^◌, ◌<◌, false, List, [], ◌∷◌, ◌++◌, length, ◌≢◌};
-ghost use Rattle.answer.specs.Lines.{text_of};
-ghost use Rattle.session.specs.Files.{ended_lines, output, printed, text_in};
-ghost use Rattle.session.specs.Progress.{Reached};
-ghost use Rattle.session.specs.Replies.{State, state_of, has_ended};
+ghost use Rattle.std.specs.Prelude.{◌≡◌, ℕ, false, List, [], ◌++◌, ◌≢◌};
+ghost use Rattle.std.specs.Option.{unwrap_or};
+ghost use Rattle.session.specs.Files.{ended_lines, output, printed};
+ghost use Rattle.session.specs.Progress.{Reached, Takes};
+ghost use Rattle.session.specs.Replies.{State, has_ended};
 
 use crate::setup::Setup;
-use answer::Answer;
 use answer::line::OutputLine;
 use command::line::LineBuffer;
 use command::reading;
@@ -26,7 +25,7 @@ pub struct Run<'a> {
 impl<'a> Run<'a> {
     /// A run that has not taken a byte yet.
     pub fn new(setup: Setup<'a>) -> Run<'a>
-        ensures { Reached result (state_of setup.entry) [] }
+        ensures { Reached result setup.entry [] }
     {
         Run {
             setup,
@@ -37,10 +36,9 @@ impl<'a> Run<'a> {
 
     /// Takes the next byte of the file, and gives what is printed for the line that it ends, if it ends one.
     pub fn take(&mut self, byte: u8) -> Option<OutputLine>
-        ensures reached { (start : State) (file : List ℕ) → length file + 2 < 2 ^ 64 → Reached self.old start file → Reached self.new start (file ++ byte ∷ []) }
-        ensures prints { (start : State) (file : List ℕ) → length file + 2 < 2 ^ 64 → Reached self.old start file → printed start 1 (ended_lines (file ++ byte ∷ [])) ≡ printed start 1 (ended_lines file) ++ text_in result }
+        ensures { Takes self.old byte (unwrap_or result []) self.new }
     {
-        if self.setup.has_ended() {
+        if self.has_ended() {
             return None;
         }
         if byte != LINE_FEED {
@@ -53,17 +51,15 @@ impl<'a> Run<'a> {
     /// Takes a byte that does not end the line.
     fn extend_line(&mut self, byte: u8)
         requires { byte ≢ 10 }
-        ensures reached { (start : State) (file : List ℕ) → length file + 2 < 2 ^ 64 → Reached self.old start file → Reached self.new start (file ++ byte ∷ []) }
-        ensures prints { (start : State) (file : List ℕ) → length file + 2 < 2 ^ 64 → Reached self.old start file → printed start 1 (ended_lines (file ++ byte ∷ [])) ≡ printed start 1 (ended_lines file) ++ [] }
+        ensures { Takes self.old byte [] self.new }
     {
         self.line.push(byte);
     }
 
     /// Takes a line feed: answers the line, and begins the next.
     fn end_line(&mut self) -> OutputLine
-        requires { has_ended (state_of self.old.setup) ≡ false }
-        ensures reached { (start : State) (file : List ℕ) → length file + 2 < 2 ^ 64 → Reached self.old start file → Reached self.new start (file ++ 10 ∷ []) }
-        ensures prints { (start : State) (file : List ℕ) → length file + 2 < 2 ^ 64 → Reached self.old start file → printed start 1 (ended_lines (file ++ 10 ∷ [])) ≡ printed start 1 (ended_lines file) ++ text_of result }
+        requires { has_ended self.old.setup ≡ false }
+        ensures { Takes self.old 10 result self.new }
     {
         let answer = self.setup.respond(reading::read_buffer(&self.line));
         let output = OutputLine::report(self.number, answer);
@@ -74,17 +70,17 @@ impl<'a> Run<'a> {
 
     /// What is printed where the file ends here, after the last line that a line feed ended.
     pub fn finish(&self) -> Option<OutputLine>
-        ensures { (start : State) (file : List ℕ) → Reached self.now start file → output start file ≡ printed start 1 (ended_lines file) ++ text_in result }
+        ensures { (start : State) (file : List ℕ) → Reached self.now start file → output start file ≡ printed start 1 (ended_lines file) ++ unwrap_or result [] }
     {
-        if self.setup.has_ended() || self.line.is_empty() {
+        if self.has_ended() || self.line.is_empty() {
             return None;
         }
-        Some(OutputLine::report(self.number, Answer::Refused(Refusal::UnreadableLine)))
+        Some(OutputLine::report(self.number, Err(Refusal::UnreadableLine)))
     }
 
     /// Whether the run has ended before the file: no further byte is looked at.
     pub fn has_ended(&self) -> bool
-        ensures { result ≡ has_ended (state_of self.now.setup) }
+        ensures { result ≡ has_ended self.now.setup }
     {
         self.setup.has_ended()
     }

@@ -1,10 +1,9 @@
 //! What the lines of a command file set up: the scheme, and the lists of accounts, offices and sheets.
 ghost use Rattle.std.specs.Prelude.{◌≡◌, length, Some, None};
 ghost use Rattle.std.specs.Option.{option_map};
-ghost use Rattle.std.specs.Result.{result_err};
 ghost use Rattle.command.specs.Commands.{spoken};
-ghost use Rattle.session.specs.Replies.{answer_of, begun, fresh, has_ended, listed, reply, state_of};
-ghost use Rattle.session.specs.Soundness.{KeepsSound};
+ghost use Rattle.session.specs.Replies.{Gives, begun, fresh, has_ended, listed, reply};
+ghost use Rattle.session.specs.Soundness.{Sound};
 
 use answer::Answer;
 use command::{Command, Scheme};
@@ -12,6 +11,7 @@ use refusal::Refusal;
 use register::lists;
 use register::rows::{Account, Office, Sheet};
 use register::table::Register;
+use std::marker::Model;
 
 /// How far a run has come.
 #[derive(Clone, Copy)]
@@ -33,14 +33,16 @@ pub struct Setup<'a> {
     sheets: Register<'a, Sheet>,
 }
 
-/// The answer to a call that ended so.
-fn answer_of(res: Result<(), Refusal>) -> Answer
-    ensures { result ≡ answer_of (result_err res) }
-{
-    match res {
-        Ok(()) => Answer::Done,
-        Err(refusal) => Answer::Refused(refusal),
-    }
+// Clauses see the state. Whatever the lines, its lists are sound.
+impl<'a> Model for Setup<'a> {
+    ghost use Rattle.session.specs.Replies.{State, state_in};
+    ghost use Rattle.session.specs.Soundness.{Sound};
+
+    ghost Value = { State };
+
+    ghost view = { λ s. state_in s.phase s.accounts s.offices s.sheets };
+
+    ghost invariant = { λ s. Sound (state_in s.phase s.accounts s.offices s.sheets) };
 }
 
 impl<'a> Setup<'a> {
@@ -50,7 +52,7 @@ impl<'a> Setup<'a> {
         offices: &'a mut [Office],
         sheets: &'a mut [Sheet],
     ) -> Setup<'a>
-        ensures { state_of result ≡ fresh (length accounts.old) (length offices.old) (length sheets.old) }
+        ensures { result ≡ fresh (length accounts.old) (length offices.old) (length sheets.old) }
     {
         Setup {
             phase: Phase::Start,
@@ -62,44 +64,38 @@ impl<'a> Setup<'a> {
 
     /// Answers the next line by the command that it spells, if it spells one.
     pub fn respond(&mut self, command: Option<Command<&[u8]>>) -> Answer
-        ensures answer { result ≡ (reply (state_of self.old) (option_map spoken command.entry)).answer }
-        ensures after { state_of self.new ≡ (reply (state_of self.old) (option_map spoken command.entry)).after }
-        ensures sound { KeepsSound (state_of self.old) (state_of self.new) }
+        ensures reply { Gives (reply self.old (option_map spoken command.entry)) result self.new }
+        ensures sound { Sound self.new }
     {
         match (self.phase, command) {
             (Phase::Start, Some(Command::Scheme(scheme))) => self.begin(scheme),
-            (Phase::Lists(_), Some(command)) => answer_of(self.list(command)),
+            (Phase::Lists(_), Some(command)) => self.list(command),
             _ => self.refuse(),
         }
     }
 
     /// Carries out a first line that chooses the scheme.
     fn begin(&mut self, scheme: Scheme) -> Answer
-        ensures answer { result ≡ (begun (state_of self.old) (Some scheme)).answer }
-        ensures after { state_of self.new ≡ (begun (state_of self.old) (Some scheme)).after }
-        ensures sound { KeepsSound (state_of self.old) (state_of self.new) }
+        ensures { Gives (begun self.old (Some scheme)) result self.new }
     {
         self.phase = Phase::Lists(scheme);
-        Answer::Done
+        Ok(())
     }
 
     /// Answers a line that cannot be read or is out of place. If it is the first, the run ends with it.
     fn refuse(&mut self) -> Answer
-        ensures answer { result ≡ (reply (state_of self.old) None).answer }
-        ensures after { state_of self.new ≡ (reply (state_of self.old) None).after }
-        ensures sound { KeepsSound (state_of self.old) (state_of self.new) }
+        ensures { Gives (reply self.old None) result self.new }
     {
         if let Phase::Start = self.phase {
             self.phase = Phase::Ended;
         }
-        Answer::Refused(Refusal::UnreadableLine)
+        Err(Refusal::UnreadableLine)
     }
 
     /// Carries out a command while the lists are filled.
-    fn list(&mut self, command: Command<&[u8]>) -> Result<(), Refusal>
-        ensures answer { answer_of (result_err result) ≡ (listed (state_of self.old) (spoken command.entry)).answer }
-        ensures after { state_of self.new ≡ (listed (state_of self.old) (spoken command.entry)).after }
-        ensures sound { KeepsSound (state_of self.old) (state_of self.new) }
+    fn list(&mut self, command: Command<&[u8]>) -> Answer
+        ensures reply { Gives (listed self.old (spoken command.entry)) result self.new }
+        ensures sound { Sound self.new }
     {
         match command {
             Command::Scheme(_) => Err(Refusal::UnreadableLine),
@@ -115,7 +111,7 @@ impl<'a> Setup<'a> {
 
     /// Whether no further line is looked at.
     pub fn has_ended(&self) -> bool
-        ensures { result ≡ has_ended (state_of self.now) }
+        ensures { result ≡ has_ended self.now }
     {
         matches!(self.phase, Phase::Ended)
     }

@@ -1,31 +1,21 @@
 //! Messages as the vectors give them: a pattern, and how long the message is.
+use crate::outcome::Failure;
 use notation::{decimal, hex};
-use std::alloc::{AllocError, Global};
+use std::alloc::Global;
 
-/// The pattern over and over, cut at this length; nothing where the pattern is empty and the message is not.
-fn repeated(heap: Global, pattern: &[u8], length: usize) -> Result<Option<Vec<u8>>, AllocError> {
-    let mut bytes = Vec::new(heap);
-    for i in 0..length {
-        if pattern.len() == 0 {
-            return Ok(None);
-        }
-        bytes.push(pattern[i % pattern.len()])?;
+/// The pattern over and over, cut at this length; a failure where the pattern is empty and the message is not.
+fn repeated(heap: Global, pattern: &[u8], length: usize) -> Result<Vec<u8>, Failure> {
+    if pattern.is_empty() && length > 0 {
+        return Err(Failure::Unreadable);
     }
-    Ok(Some(bytes))
+    let message = pattern.iter().copied().cycle().take(length).collect(heap)?;
+    Ok(message)
 }
 
-/// The message of a pattern in hexadecimal and a length in decimal, or nothing where they cannot be read.
-pub(crate) fn read(
-    heap: Global,
-    pattern: &[u8],
-    length: &[u8],
-) -> Result<Option<Vec<u8>>, AllocError> {
-    let Some(length) = decimal::read_u32(length) else {
-        return Ok(None);
-    };
+/// The message of a pattern in hexadecimal and a length in decimal.
+pub(crate) fn read(heap: Global, pattern: &[u8], length: &[u8]) -> Result<Vec<u8>, Failure> {
+    let length = decimal::read_as::<u32>(length).ok_or(Failure::Unreadable)?;
     let mut bytes = vec![in heap; 0u8; pattern.len() / 2]?;
-    if !hex::decode(pattern, &mut bytes) {
-        return Ok(None);
-    }
+    hex::decode(pattern, &mut bytes)?;
     repeated(heap, &bytes, length as usize)
 }

@@ -1,118 +1,76 @@
 //! One vector: which function, on which arguments.
+ghost use Rattle.std.specs.Prelude.{◌≡◌};
+ghost use Rattle.std.specs.Option.{ok_or};
+ghost use Rattle.notation.specs.Hex.{bytes_in};
+
 use crate::message;
+use crate::outcome::{Failure, Outcome};
 use blake2s::code::KeyedBlake2s;
 use chacha20::block::block;
 use cipher::Cipher;
 use cipher::chacha::ChaChaCipher;
 use cipher::from_mac::MacCipher;
 use mac::Mac;
-use notation::{decimal, fields, hex};
-use refusal::Refusal;
+use notation::fields::Fields;
+use notation::{decimal, hex};
 use sha256::code::HmacSha256;
-use std::alloc::{AllocError, Global};
+use std::alloc::Global;
 
-/// What a vector comes to.
-#[derive(Clone, Copy)]
-pub(crate) enum Outcome {
-    Tag([u8; 32]),
-    Block([u8; 64]),
-    /// 32 bytes encrypted, and decrypted again.
-    Ciphered {
-        hidden: [u8; 32],
-        revealed: [u8; 32],
-    },
-    Refused(Refusal),
-    Unreadable,
+/// The bytes that a field spells in hexadecimal.
+fn bytes<const N: usize>(field: &[u8]) -> Result<[u8; N], Failure>
+    ensures { result ≡ ok_or (bytes_in N field.now) Failure.Unreadable }
+{
+    hex::decode_array(field).ok_or(Failure::Unreadable)
 }
 
-/// A field that spells 32 bytes in hexadecimal.
-fn bytes32(line: &[u8], place: usize) -> Option<[u8; 32]> {
-    let mut bytes = [0; 32];
-    if hex::decode(fields::nth(line, b'\t', place), &mut bytes) {
-        Some(bytes)
-    } else {
-        None
-    }
-}
-
-/// The message of two fields, a pattern and a length.
-fn message_in(heap: Global, line: &[u8], place: usize) -> Result<Option<Vec<u8>>, AllocError> {
-    message::read(
-        heap,
-        fields::nth(line, b'\t', place),
-        fields::nth(line, b'\t', place.saturating_add(1)),
-    )
-}
-
-/// NAME PATTERN LENGTH: the SHA-256 of the message.
-fn sha256_line(heap: Global, line: &[u8]) -> Result<Outcome, AllocError> {
-    match message_in(heap, line, 1)? {
-        Some(message) => Ok(Outcome::Tag(sha256::hash::digest(&message))),
-        None => Ok(Outcome::Unreadable),
-    }
-}
-
-/// NAME PATTERN LENGTH: the BLAKE2s hash of the message, without a key.
-fn blake2s_line(heap: Global, line: &[u8]) -> Result<Outcome, AllocError> {
-    match message_in(heap, line, 1)? {
-        Some(message) => Ok(Outcome::Tag(blake2s::hash::digest(&message))),
-        None => Ok(Outcome::Unreadable),
-    }
+/// NAME PATTERN LENGTH: the hash of the message.
+fn digest_line<D: Fn(&[u8]) -> [u8; 32] + Drop>(
+    heap: Global,
+    fields: &Fields<'_>,
+    digest: D,
+) -> Result<Outcome, Failure>
+    requires { D.IsAlwaysCallable digest }
+{
+    let message = message::read(heap, fields.nth(1), fields.nth(2))?;
+    Ok(Outcome::Tag(digest(&message)))
 }
 
 /// NAME KEY PATTERN LENGTH: the tag of the message.
-fn tag_line<M: Mac>(heap: Global, line: &[u8], mac: &M) -> Result<Outcome, AllocError> {
-    let Some(key) = bytes32(line, 1) else {
-        return Ok(Outcome::Unreadable);
-    };
-    let Some(message) = message_in(heap, line, 2)? else {
-        return Ok(Outcome::Unreadable);
-    };
-    match mac.tag(&key, &message) {
-        Ok(tag) => Ok(Outcome::Tag(tag)),
-        Err(refusal) => Ok(Outcome::Refused(refusal)),
-    }
+fn tag_line(heap: Global, fields: &Fields<'_>, mac: &impl Mac) -> Result<Outcome, Failure> {
+    let key = bytes(fields.nth(1))?;
+    let message = message::read(heap, fields.nth(2), fields.nth(3))?;
+    Ok(Outcome::Tag(mac.tag(&key, &message)?))
 }
 
 /// NAME KEY COUNTER NONCE: a block of key stream.
-fn block_line(line: &[u8]) -> Outcome {
-    let Some(key) = bytes32(line, 1) else {
-        return Outcome::Unreadable;
-    };
-    let Some(counter) = decimal::read_u32(fields::nth(line, b'\t', 2)) else {
-        return Outcome::Unreadable;
-    };
-    let mut nonce = [0; 12];
-    if !hex::decode(fields::nth(line, b'\t', 3), &mut nonce) {
-        return Outcome::Unreadable;
-    }
-    Outcome::Block(block(&key, counter, &nonce))
+fn block_line(fields: &Fields<'_>) -> Result<Outcome, Failure> {
+    let key = bytes(fields.nth(1))?;
+    let counter = decimal::read_as(fields.nth(2)).ok_or(Failure::Unreadable)?;
+    let nonce = bytes(fields.nth(3))?;
+    Ok(Outcome::Block(block(&key, counter, &nonce)))
 }
 
 /// NAME KEY PLAIN: 32 bytes encrypted, and decrypted again.
-fn cipher_line<C: Cipher>(line: &[u8], cipher: &C) -> Outcome {
-    let Some(key) = bytes32(line, 1) else {
-        return Outcome::Unreadable;
-    };
-    let Some(plain) = bytes32(line, 2) else {
-        return Outcome::Unreadable;
-    };
+fn cipher_line(fields: &Fields<'_>, cipher: &impl Cipher) -> Result<Outcome, Failure> {
+    let key = bytes(fields.nth(1))?;
+    let plain = bytes(fields.nth(2))?;
     let hidden = cipher.encrypt(&key, &plain);
     let revealed = cipher.decrypt(&key, &hidden);
-    Outcome::Ciphered { hidden, revealed }
+    Ok(Outcome::Ciphered { hidden, revealed })
 }
 
 /// Runs the vector of a line.
-pub(crate) fn run(heap: Global, line: &[u8]) -> Result<Outcome, AllocError> {
-    match fields::nth(line, b'\t', 0) {
-        b"sha256" => sha256_line(heap, line),
-        b"blake2s" => blake2s_line(heap, line),
-        b"hmac-sha256" => tag_line(heap, line, &HmacSha256),
-        b"keyed-blake2s" => tag_line(heap, line, &KeyedBlake2s),
-        b"chacha20-block" => Ok(block_line(line)),
-        b"chacha20-cipher" => Ok(cipher_line(line, &ChaChaCipher)),
-        b"hmac-sha256-cipher" => Ok(cipher_line(line, &MacCipher { mac: HmacSha256 })),
-        b"keyed-blake2s-cipher" => Ok(cipher_line(line, &MacCipher { mac: KeyedBlake2s })),
-        _ => Ok(Outcome::Unreadable),
+pub(crate) fn run(heap: Global, line: &[u8]) -> Result<Outcome, Failure> {
+    let fields = Fields::new(line, b'\t');
+    match fields.nth(0) {
+        b"sha256" => digest_line(heap, &fields, sha256::hash::digest),
+        b"blake2s" => digest_line(heap, &fields, blake2s::hash::digest),
+        b"hmac-sha256" => tag_line(heap, &fields, &HmacSha256),
+        b"keyed-blake2s" => tag_line(heap, &fields, &KeyedBlake2s),
+        b"chacha20-block" => block_line(&fields),
+        b"chacha20-cipher" => cipher_line(&fields, &ChaChaCipher),
+        b"hmac-sha256-cipher" => cipher_line(&fields, &MacCipher { mac: HmacSha256 }),
+        b"keyed-blake2s-cipher" => cipher_line(&fields, &MacCipher { mac: KeyedBlake2s }),
+        _ => Err(Failure::Unreadable),
     }
 }

@@ -1,26 +1,18 @@
-use Rattle.std.proofs.Common.{◌≤◌, sym, ◌∙◌}
-use Rattle.std.proofs.lemmas.List.{at_drop_all}
-use Rattle.std.proofs.lemmas.Option.{MatchOption-from_none}
-use Rattle.notation.proofs.Number.{rest, rest_all, rest_more, rest_ends}
+use Rattle.std.proofs.Common.{◌≡◌, ℕ, ◌≤◌, length, Option, IfSome, rules, sym, ap, subst, ◌∙◌, arith}
+use Rattle.std.proofs.lemmas.Bool.Decides.{nat_tests}
+use Rattle.std.proofs.lemmas.Fn.{fronts, slice_gives}
+use Rattle.notation.specs.Decimal.{number_in}
+use Rattle.notation.proofs.Folded.{folded, folded_from_try_fold}
+use Rattle.notation.proofs.Number.{appended, folded-number_in, number_in_bound}
 use Rattle.notation.proofs.decimal.read.Goals as goal
-
-pub returns-in_err-n : goal.returns-in_err-n
-returns-in_err-n c =
-    let e = rest_ends c.args.most c.loop-digit.n c.args.digits.now c.loop-digit.digit-index c.loop-digit-test.true c.in_err-n.ensures in
-    record {
-      value = c.from_residual.ensures ∙ (sym e ∙ c.loop-digit.invariant.1);
-      bound = MatchOption-from_none _ (λ n. n ≤ c.args.most) c.from_residual.ensures;
-    }
-
-pub loop-digit-preserved : goal.loop-digit-preserved
-loop-digit-preserved c =
-    let p = rest_more c.args.most c.loop-digit.n c.in_ok-n.n c.args.digits.now c.loop-digit.digit-index c.loop-digit-test.true c.in_ok-n.ensures in
-    (p.0, sym p.1 ∙ c.loop-digit.invariant.1)
 
 pub returns : goal.returns
 returns c =
-    let e = at_drop_all (rest c.args.most c.loop-digit.n) c.args.digits.now c.loop-digit.digit-index c.loop-digit-test.false in
-    record {
-      value = rest_all c.args.most c.loop-digit.n c.loop-digit.invariant.0 ∙ (sym e ∙ c.loop-digit.invariant.1);
-      bound = c.loop-digit.invariant.0;
-    }
+    let most = c.args.most in
+    let ds = c.args.digits.now in
+    let some : 1 ≤ length ds = grind (arith, nat_tests) in
+    let e : c.try_fold.result ≡ number_in most ds =
+    folded_from_try_fold _ fronts (λ d. d.now) _ (appended most) _ (λ a x w f k. search rules) c.iter.result c.try_fold.new.self 0 _ _ c.try_fold.ensures.ran (slice_gives c.iter.result)
+    ∙ ap (folded (appended most) 0) c.iter.ensures.rest
+    ∙ folded-number_in most ds some in
+    record { value = e; bound = subst (λ (r : Option ℕ). IfSome r (λ n. n ≤ most)) (sym e) (number_in_bound most ds) }

@@ -7,10 +7,10 @@ use Rattle.session.proofs.Taken.{line_extended}
 use Rattle.session.proofs.run.Run.extend_line.Goals as goal
 
 pub returns : goal.returns
-returns c =
+returns c = λ start file small h.
     let b = c.args.byte in
     record {
-      reached = λ start file small h. record {
+      reached = record {
         state = h.state ∙ ap (after start) (sym (lines_more file b c.requires));
         number = λ going. h.number going ∙ sym (count_more file b c.requires);
         line = λ going.
@@ -19,5 +19,5 @@ returns c =
             ∙ line_extended (remainder file) b
             ∙ ap line_in (sym (remainder_more file b c.requires));
       };
-      prints = λ start file small h. ap (printed start 1) (lines_more file b c.requires) ∙ sym (append-nil (printed start 1 (ended_lines file)));
+      prints = ap (printed start 1) (lines_more file b c.requires) ∙ sym (append-nil (printed start 1 (ended_lines file)));
     }

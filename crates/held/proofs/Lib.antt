@@ -1,0 +1,2 @@
+pub mod Pushed
+pub mod Same
