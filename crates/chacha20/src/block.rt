@@ -4,7 +4,7 @@ ghost use Rattle.chacha20.specs.Block.{chacha20, mixed_words, start_words};
 
 use crate::rounds::twenty_rounds;
 use octets::order::ByteOrder;
-use octets::words::{load, store};
+use octets::words::{load_words, store_words};
 use std::array;
 
 /// The first four words of each state: the text "expand 32-byte k".
@@ -16,9 +16,9 @@ fn start(key: &[u8; 32], counter: u32, nonce: &[u8; 12]) -> [u32; 16]
 {
     let mut state = [0; 16];
     state[..4].copy_from_slice(&CONSTANTS);
-    state[4..12].copy_from_slice(&load::<8>(ByteOrder::LowFirst, key));
+    state[4..12].copy_from_slice(&load_words::<8>(ByteOrder::LowFirst, key));
     state[12] = counter;
-    state[13..].copy_from_slice(&load::<3>(ByteOrder::LowFirst, nonce));
+    state[13..].copy_from_slice(&load_words::<3>(ByteOrder::LowFirst, nonce));
     state
 }
 
@@ -35,7 +35,7 @@ fn mixed_words(start: [u32; 16]) -> [u32; 16]
 pub fn block(key: &[u8; 32], counter: u32, nonce: &[u8; 12]) -> [u8; 64]
     ensures { result ≡ chacha20 key.now counter nonce.now }
 {
-    store(
+    store_words(
         ByteOrder::LowFirst,
         &mixed_words(start(key, counter, nonce)),
     )

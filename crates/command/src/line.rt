@@ -3,27 +3,29 @@ ghost use Rattle.std.specs.Prelude.{◌≡◌, ◌≤◌, [], length, IfSome, So
 ghost use Rattle.std.specs.Option.{option_map};
 ghost use Rattle.command.specs.Lines.{longer, is_blank};
 
-use arrayvec::ArrayVec;
 use std::marker::Model;
 
-/// One byte more than a line may have: a line that fills the buffer is too long.
-const OVER: usize = 10241;
+/// The most bytes that a line has.
+const LIMIT: usize = 10240;
 
-/// The bytes since the last line feed, as far as there is room for them. Of a line that is too long no more counts than that
-/// it is.
+/// The bytes since the last line feed, as far as there is room for them. There is room for one more than a line may have: a line
+/// that fills the buffer is too long, and no more of it counts than that it is.
 #[derive(Drop)]
 pub struct LineBuffer {
-    bytes: ArrayVec<u8, OVER>,
+    bytes: [u8; 10241],
+    len: usize,
 }
 
 // Clauses see the line, or nothing where it is too long.
 impl Model for LineBuffer {
-    ghost use Rattle.std.specs.Prelude.{ℕ, List, Option};
+    ghost use Rattle.std.specs.Prelude.{ℕ, ◌≤◌, List, Option, take};
     ghost use Rattle.command.specs.Lines.{line_in};
 
     ghost Value = { Option (List ℕ) };
 
-    ghost view = { λ b. line_in b.bytes.items };
+    ghost view = { λ b. line_in (take b.len b.bytes) };
+
+    ghost invariant = { λ b. b.len ≤ 10241 };
 }
 
 impl LineBuffer {
@@ -32,7 +34,8 @@ impl LineBuffer {
         ensures { result ≡ Some [] }
     {
         LineBuffer {
-            bytes: ArrayVec::new(),
+            bytes: [0; 10241],
+            len: 0,
         }
     }
 
@@ -41,7 +44,11 @@ impl LineBuffer {
         ensures { self.new ≡ longer self.old byte }
     {
         // a line that fills the buffer is too long already, and stays so
-        let _ = self.bytes.try_push(byte);
+        let at = self.len;
+        if at <= LIMIT {
+            self.bytes[at] = byte;
+            self.len = at + 1;
+        }
     }
 
     /// The line's bytes, unless it is too long.
@@ -49,10 +56,10 @@ impl LineBuffer {
         ensures value { option_map (λ x. x.now) result ≡ self.now }
         ensures fits { IfSome result (λ x. length x.now ≤ 10240) }
     {
-        if self.bytes.is_full() {
+        if self.len > LIMIT {
             None
         } else {
-            Some(self.bytes.as_slice())
+            Some(&self.bytes[..self.len])
         }
     }
 
@@ -60,13 +67,13 @@ impl LineBuffer {
     pub fn is_empty(&self) -> bool
         ensures { result ≡ is_blank self.now }
     {
-        self.bytes.is_empty()
+        self.len == 0
     }
 
     /// Begins the next line.
     pub fn clear(&mut self)
         ensures { self.new ≡ Some [] }
     {
-        self.bytes.clear();
+        self.len = 0;
     }
 }

@@ -1,3 +1,4 @@
 pub mod Number
 pub mod Folded
 pub mod Nibbles
+pub mod Parts

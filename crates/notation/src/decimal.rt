@@ -22,8 +22,12 @@ pub fn read(digits: &[u8], most: u64) -> Option<u64>
 fn append(number: u64, digit: u8, most: u64) -> Option<u64>
     ensures { result ≡ (if is_digit digit && nat_le (number * 10 + (digit - 48)) most then Some (number * 10 + (digit - 48)) else None) }
 {
-    let digit = char::from(digit).to_digit(10)?;
-    let longer = number.checked_mul(10)?.checked_add(u64::from(digit))?;
+    if !digit.is_ascii_digit() {
+        return None;
+    }
+    let longer = number
+        .checked_mul(10)?
+        .checked_add(u64::from(digit - b'0'))?;
     (longer <= most).then_some(longer)
 }
 

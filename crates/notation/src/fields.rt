@@ -1,5 +1,5 @@
 //! Fields of a line, parted by a separator: one separator more makes one field more, and a field may be empty.
-ghost use Rattle.std.specs.Prelude.{◌≡◌, [], length, slice_index_or};
+ghost use Rattle.std.specs.Prelude.{◌≡◌, ◌≤◌, [], length, slice_index_or};
 ghost use Rattle.notation.specs.Fields.{fields_of};
 
 use std::marker::Model;
@@ -30,10 +30,14 @@ impl<'a> Fields<'a> {
 
     /// How many there are: at least one.
     pub fn count(&self) -> usize
-        ensures { result ≡ length self.now }
+        ensures value { result ≡ length self.now }
+        ensures some { 1 ≤ result }
     {
         let separator = self.separator;
-        self.line.split(|byte| *byte == separator).count()
+        // added and not branched on, since nobody can guess which bytes are separators; so few cannot wrap
+        self.line.iter().fold(1, |fields: usize, byte| {
+            fields.wrapping_add(usize::from(*byte == separator))
+        })
     }
 
     /// The field at this place, counted from 0; empty where there are not so many.

@@ -20,7 +20,11 @@ fn value(digit: u8) -> u8
     ensures value { result ≡ hex_value digit }
     ensures small { result < 16 }
 {
-    char::from(digit).to_digit(16).unwrap() as u8
+    match digit {
+        b'0'..=b'9' => digit - b'0',
+        b'A'..=b'F' => digit - b'A' + 10,
+        _ => digit - b'a' + 10,
+    }
 }
 
 /// Lays the bytes that the digits spell into `out`, which has a byte for each two of them.

@@ -2,8 +2,9 @@
 use Rattle.std.specs.Prelude.{ℕ, Bool, ◌&&◌, List, [], ◌∷◌, nat_le}
 use Rattle.refusal.specs.Checks.{Check}
 use Rattle.refusal.specs.declared.Refusal.TheVariants.{WrongLength, WrongOffice}
-use Rattle.register.specs.Paths.{is_path}
+use Rattle.register.specs.Paths.{is_path, path_of}
 use Rattle.register.specs.declared.rows.Keyed.{Keyed}
+use Rattle.register.specs.declared.rows.Sheet.{Sheet}
 
 -- accounts and offices go by their numbers, and sheets by their paths
 abbrev pub number_name : Keyed ℕ → List ℕ
@@ -27,3 +28,13 @@ office_checks number = (is_office number, WrongOffice) ∷ []
 
 abbrev pub path_checks : List ℕ → List Check
 path_checks path = (is_path path, WrongLength) ∷ []
+
+-- a sheet as it is listed; it goes by its path
+pub record Listing : Type 0 where
+  pub path : List ℕ
+  pub account : ℕ
+  pub cards : ℕ
+
+-- what a row of the register lists
+abbrev pub listing : Sheet → Listing
+listing s = record { path = path_of s.path; account = s.account; cards = s.cards }

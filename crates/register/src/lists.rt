@@ -1,6 +1,7 @@
 //! Adding to the lists whose rows have limits of their own. (Any account may be added, so `Register::add` serves for those.)
 ghost use Rattle.register.specs.Adding.{Adds};
-ghost use Rattle.register.specs.Listing.{most_offices, most_sheets, number_name, office_checks, path_checks};
+ghost use Rattle.register.specs.Listing.{listing, most_offices, most_sheets, number_name, office_checks, path_checks};
+ghost use Rattle.register.specs.Table.{shown};
 
 use crate::path::SheetPath;
 use crate::rows::{Office, Sheet};
@@ -27,7 +28,7 @@ pub fn add_sheet(
     account: u16,
     cards: u32,
 ) -> Result<(), Refusal>
-    ensures { Adds (λ s. s.path) most_sheets (path_checks path.entry.now) record { path = path.entry.now; account = account; cards = cards } sheets.old result sheets.new }
+    ensures { Adds (λ l. l.path) most_sheets (path_checks path.entry.now) record { path = path.entry.now; account = account; cards = cards } (shown listing sheets.old) result (shown listing sheets.new) }
 {
     let path = SheetPath::new(path).ok_or(Refusal::WrongLength)?;
     sheets.add(Sheet {

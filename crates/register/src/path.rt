@@ -1,44 +1,23 @@
 //! The path of a sheet file: 1 to 40 bytes of any kind.
-ghost use Rattle.std.specs.Prelude.{◌≡◌, ◌≤◌, length};
-ghost use Rattle.register.specs.Paths.{path_in};
+ghost use Rattle.std.specs.Prelude.{◌≤◌};
 
-use held::Held;
-use std::marker::Model;
-
-/// The path of a sheet file, held by value so that a row can keep it. The default, no path, stands in memory that is not in
-/// use yet.
-#[derive(Clone, Copy, Default, PartialEq, Eq)]
+/// The path of a sheet file, held by value so that a row can keep it. It has no model, since a row that held one would no longer
+/// be copied where it is passed by value.
+#[derive(Clone, Copy)]
 pub struct SheetPath {
-    bytes: Held<40>,
+    bytes: [u8; 40],
+    len: usize,
+    ghost fits: { len ≤ 40 },
 }
 
-// Clauses see the bytes of the path.
-impl Model for SheetPath {
-    ghost use Rattle.std.specs.Prelude.{ℕ, List};
-
-    ghost Value = { List ℕ };
-
-    ghost view = { λ p. p.bytes };
-
-    ghost inverse = { λ bytes. record { bytes = bytes } };
-}
-
-impl SheetPath {
-    /// The path that these bytes spell; nothing where they are none, or over 40.
-    pub fn new(bytes: &[u8]) -> Option<SheetPath>
-        ensures { result ≡ path_in bytes.now }
-    {
-        if bytes.is_empty() {
-            return None;
+/// No path: what stands in memory that is not in use yet.
+impl Default for SheetPath {
+    fn default() -> SheetPath {
+        SheetPath {
+            bytes: [0; 40],
+            len: 0,
         }
-        let bytes = Held::holding(bytes)?;
-        Some(SheetPath { bytes })
-    }
-
-    pub fn as_bytes(&self) -> &[u8]
-        ensures value { result.now ≡ self.now }
-        ensures fits { length result.now ≤ 40 }
-    {
-        self.bytes.as_bytes()
     }
 }
+
+mod bytes;

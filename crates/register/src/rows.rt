@@ -1,6 +1,7 @@
 //! The rows of the three lists. A row's default stands in memory that is not in use yet, and means nothing.
 ghost use Rattle.std.specs.Prelude.{[], ◌∷◌};
 ghost use Rattle.register.specs.Listing.{most_accounts, most_offices, most_sheets, number_name};
+ghost use Rattle.register.specs.Paths.{path_of};
 
 use crate::path::SheetPath;
 use crate::row::Row;
@@ -73,9 +74,9 @@ impl Row for Office {
 impl Row for Sheet {
     type Key = SheetPath;
 
-    ghost name = { λ s. s.path };
+    ghost name = { λ s. path_of s.path };
 
-    ghost sought = { λ path. path };
+    ghost sought = { path_of };
 
     ghost most = { most_sheets };
 

@@ -2,22 +2,12 @@
 use Rattle.std.proofs.Common.{◌≡◌, ℕ, eqb, ◌+◌, ◌-◌, ◌≤◌, List, [], ◌∷◌, ◌++◌, length, get_or, take, sym, refl, ap, ◌∙◌, ⊎_elim, arith}
 use Rattle.std.proofs.lemmas.List.{length_push, take_at, get_or_push, take-append-drop, drop_more, drop_all, length-take-le}
 use Rattle.std.proofs.lemmas.Bool.{cases_eq}
-use Rattle.std.proofs.lemmas.Bool.{eq-eqb, ne_eqb}
-use Rattle.std.proofs.lemmas.List.Splits.{slice_split-cons_yes, slice_split-cons_no, length-slice_split}
+use Rattle.std.proofs.lemmas.List.Splits.{length-slice_split}
 use Rattle.std.proofs.lemmas.List.Sums.{count_by-le-length}
 use Rattle.std.specs.List.{onto_first}
 use Rattle.notation.specs.Fields.{fields_of}
+use Rattle.notation.proofs.Parts.{at_separator, at_other, some_field}
 use Rattle.session.specs.Files.{parts, ended_lines, remainder}
-
--- the first byte of some parts
-at_separator : (s b : ℕ) (bs : List ℕ) → b ≡ s → fields_of s (b ∷ bs) ≡ [] ∷ fields_of s bs
-at_separator s b bs e = slice_split-cons_yes (λ x. eqb x s) b bs (eq-eqb b s e)
-
-at_other : (s b : ℕ) (bs : List ℕ) → (b ≡ s → ⊥) → fields_of s (b ∷ bs) ≡ onto_first b (fields_of s bs)
-at_other s b bs ne = slice_split-cons_no (λ x. eqb x s) b bs (ne_eqb b s ne)
-
-some_field : (s : ℕ) (bs : List ℕ) → 1 ≤ length (fields_of s bs)
-some_field s bs = omega (arith, length-slice_split (λ x. eqb x s) bs)
 
 -- a byte behind the last of these parts
 abbrev pushed : ℕ → List (List ℕ) → List (List ℕ)

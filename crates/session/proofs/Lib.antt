@@ -1,3 +1,4 @@
 pub mod Cut
 pub mod Told
 pub mod Taken
+pub mod Kept

@@ -1,7 +1,9 @@
 -- What is printed for a whole file.
-use Rattle.std.specs.Prelude.{ℕ, ◌+◌, ◌-◌, cond, ◌||◌, List, [], ◌∷◌, ◌++◌, length, take, Err, ◌==◌, slice_index_or}
+use Rattle.std.specs.Prelude.{ℕ, ◌+◌, ◌-◌, cond, ◌||◌, List, [], ◌∷◌, ◌++◌, length, take, Some, None, Err, Option, ◌==◌, slice_index_or}
 use Rattle.notation.specs.Fields.{fields_of}
+use Rattle.answer.specs.Lines.{text_of}
 use Rattle.answer.specs.Written.{line_for}
+use Rattle.answer.specs.declared.line.OutputLine.{OutputLine}
 use Rattle.command.specs.Commands.{asked}
 use Rattle.command.specs.Lines.{line_in}
 use Rattle.refusal.specs.declared.Refusal.TheVariants.{UnreadableLine}
@@ -40,3 +42,8 @@ output state file =
     printed state 1 (ended_lines file)
     ++ cond (has_ended (after state (ended_lines file)) || length (remainder file) == 0) []
     (line_for (length (parts file)) (Err UnreadableLine))
+
+-- the bytes of an output line, if there is one
+abbrev pub text_in : Option OutputLine → List ℕ
+text_in None = []
+text_in (Some line) = text_of line

@@ -4,10 +4,9 @@ use Rattle.refusal.specs.Checks.{Check, first_refused}
 use Rattle.refusal.specs.declared.Refusal.{Refusal}
 use Rattle.refusal.specs.declared.Refusal.TheVariants.{UnreadableLine}
 use Rattle.register.specs.Adding.{new_row}
-use Rattle.register.specs.Listing.{most_accounts, most_offices, most_sheets, number_name, office_checks, path_checks}
+use Rattle.register.specs.Listing.{Listing, most_accounts, most_offices, most_sheets, number_name, office_checks, path_checks}
 use Rattle.register.specs.Table.{Table, room}
 use Rattle.register.specs.declared.rows.Keyed.{Keyed}
-use Rattle.register.specs.declared.rows.Sheet.{Sheet as Sheets}
 use Rattle.command.specs.declared.Command.{Command}
 use Rattle.command.specs.declared.Command.TheVariants.{Scheme, Account, Office, Sheet}
 use Rattle.command.specs.declared.Scheme.{Scheme as Schemes}
@@ -24,7 +23,7 @@ pub record State : Type 0 where
   pub phase : Phase
   pub accounts : Rows (Keyed ℕ)
   pub offices : Rows (Keyed ℕ)
-  pub sheets : Rows Sheets
+  pub sheets : Rows Listing
 
 -- before the first line, where memory has so many rows for each list
 abbrev pub fresh : ℕ → ℕ → ℕ → State
@@ -40,7 +39,7 @@ abbrev pub rows_in : {X : Type 0} → ℕ → Table X → Rows X
 rows_in most table = record { rows = table.listed; room = room most table }
 
 -- the state that is held in a phase and three registers
-abbrev pub state_in : Phase → Table (Keyed ℕ) → Table (Keyed ℕ) → Table Sheets → State
+abbrev pub state_in : Phase → Table (Keyed ℕ) → Table (Keyed ℕ) → Table Listing → State
 state_in phase accounts offices sheets = record {
   phase = phase;
   accounts = rows_in most_accounts accounts;
@@ -89,7 +88,7 @@ with_accounts s list = record { phase = s.phase; accounts = list; offices = s.of
 abbrev pub with_offices : State → Rows (Keyed ℕ) → State
 with_offices s list = record { phase = s.phase; accounts = s.accounts; offices = list; sheets = s.sheets }
 
-abbrev pub with_sheets : State → Rows Sheets → State
+abbrev pub with_sheets : State → Rows Listing → State
 with_sheets s list = record { phase = s.phase; accounts = s.accounts; offices = s.offices; sheets = list }
 
 -- a command while the lists are filled: the scheme is chosen already, so choosing it again is out of place
@@ -98,7 +97,7 @@ listed s (Scheme scheme) = unreadable s
 listed s (Account number key) = added (with_accounts s) number_name [] record { number = number; key = key } s.accounts
 listed s (Office number key) = added (with_offices s) number_name (office_checks number) record { number = number; key = key } s.offices
 listed s (Sheet path account cards) =
-    added (with_sheets s) (λ s. s.path) (path_checks path) record { path = path; account = account; cards = cards } s.sheets
+    added (with_sheets s) (λ l. l.path) (path_checks path) record { path = path; account = account; cards = cards } s.sheets
 
 -- the scheme that a first line chooses, if it does
 abbrev pub chosen : Option (Command (List ℕ)) → Option Schemes

@@ -1,7 +1,7 @@
 //! A run over a file, byte by byte: the line being read, its number, and what the lines before it have set up.
 ghost use Rattle.std.specs.Prelude.{◌≡◌, ℕ, false, List, [], ◌++◌, ◌≢◌};
-ghost use Rattle.std.specs.Option.{unwrap_or};
-ghost use Rattle.session.specs.Files.{ended_lines, output, printed};
+ghost use Rattle.answer.specs.Lines.{text_of};
+ghost use Rattle.session.specs.Files.{ended_lines, output, printed, text_in};
 ghost use Rattle.session.specs.Progress.{Reached, Takes};
 ghost use Rattle.session.specs.Replies.{State, has_ended};
 
@@ -36,7 +36,7 @@ impl<'a> Run<'a> {
 
     /// Takes the next byte of the file, and gives what is printed for the line that it ends, if it ends one.
     pub fn take(&mut self, byte: u8) -> Option<OutputLine>
-        ensures { Takes self.old byte (unwrap_or result []) self.new }
+        ensures { Takes self.old byte (text_in result) self.new }
     {
         if self.has_ended() {
             return None;
@@ -59,7 +59,7 @@ impl<'a> Run<'a> {
     /// Takes a line feed: answers the line, and begins the next.
     fn end_line(&mut self) -> OutputLine
         requires { has_ended self.old.setup ≡ false }
-        ensures { Takes self.old 10 result self.new }
+        ensures { Takes self.old 10 (text_of result) self.new }
     {
         let answer = self.setup.respond(reading::read_buffer(&self.line));
         let output = OutputLine::report(self.number, answer);
@@ -70,7 +70,7 @@ impl<'a> Run<'a> {
 
     /// What is printed where the file ends here, after the last line that a line feed ended.
     pub fn finish(&self) -> Option<OutputLine>
-        ensures { (start : State) (file : List ℕ) → Reached self.now start file → output start file ≡ printed start 1 (ended_lines file) ++ unwrap_or result [] }
+        ensures { (start : State) (file : List ℕ) → Reached self.now start file → output start file ≡ printed start 1 (ended_lines file) ++ text_in result }
     {
         if self.has_ended() || self.line.is_empty() {
             return None;

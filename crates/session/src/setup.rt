@@ -3,7 +3,7 @@ ghost use Rattle.std.specs.Prelude.{◌≡◌, length, Some, None};
 ghost use Rattle.std.specs.Option.{option_map};
 ghost use Rattle.command.specs.Commands.{spoken};
 ghost use Rattle.session.specs.Replies.{Gives, begun, fresh, has_ended, listed, reply};
-ghost use Rattle.session.specs.Soundness.{Sound};
+ghost use Rattle.session.specs.Soundness.{Sound, StaysSound};
 
 use answer::Answer;
 use command::{Command, Scheme};
@@ -35,14 +35,16 @@ pub struct Setup<'a> {
 
 // Clauses see the state. Whatever the lines, its lists are sound.
 impl<'a> Model for Setup<'a> {
+    ghost use Rattle.register.specs.Listing.{listing};
+    ghost use Rattle.register.specs.Table.{shown};
     ghost use Rattle.session.specs.Replies.{State, state_in};
     ghost use Rattle.session.specs.Soundness.{Sound};
 
     ghost Value = { State };
 
-    ghost view = { λ s. state_in s.phase s.accounts s.offices s.sheets };
+    ghost view = { λ s. state_in s.phase s.accounts s.offices (shown listing s.sheets) };
 
-    ghost invariant = { λ s. Sound (state_in s.phase s.accounts s.offices s.sheets) };
+    ghost invariant = { λ s. Sound (state_in s.phase s.accounts s.offices (shown listing s.sheets)) };
 }
 
 impl<'a> Setup<'a> {
@@ -52,7 +54,8 @@ impl<'a> Setup<'a> {
         offices: &'a mut [Office],
         sheets: &'a mut [Sheet],
     ) -> Setup<'a>
-        ensures { result ≡ fresh (length accounts.old) (length offices.old) (length sheets.old) }
+        ensures empty { result ≡ fresh (length accounts.old) (length offices.old) (length sheets.old) }
+        ensures sound { StaysSound result }
     {
         Setup {
             phase: Phase::Start,

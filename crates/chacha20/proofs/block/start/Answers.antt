@@ -7,7 +7,7 @@ returns c =
     rw (
       c.copy_from_slice.ensures.after,
       c.copy_from_slice-2.ensures.after,
-      c.load.ensures,
+      c.load_words.ensures,
       c.copy_from_slice-3.ensures.after,
-      c.load-2.ensures,
+      c.load_words-2.ensures,
     )

@@ -3,7 +3,7 @@ use Rattle.std.proofs.lemmas.List.{take_all}
 use Rattle.octets.specs.Words.{bytes_of_words}
 use Rattle.octets.proofs.Laid.{take-laid}
 use Rattle.octets.proofs.Stored.{bytes_more, length-bytes_of}
-use Rattle.octets.proofs.words.store.Goals as goal
+use Rattle.octets.proofs.words.store_words.Goals as goal
 
 pub loop-i-preserved : goal.loop-i-preserved
 loop-i-preserved g c =

@@ -2,7 +2,7 @@ use Rattle.std.proofs.Common.{◌*◌, sym, ◌∙◌, rules}
 use Rattle.octets.specs.Words.{word_at}
 use Rattle.octets.proofs.Made.{made}
 use Rattle.octets.proofs.Stored.{words_of_range}
-use Rattle.octets.proofs.words.load.Goals as goal
+use Rattle.octets.proofs.words.load_words.Goals as goal
 
 pub returns : goal.returns
 returns g c =
