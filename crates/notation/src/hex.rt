@@ -7,11 +7,14 @@ ghost use Rattle.notation.specs.Hex.{bytes_in, is_hex, hex_value, all_hex, spell
 #[derive(Clone, Copy, Debug, PartialEq, Eq)]
 pub struct NotHex;
 
-/// Whether all bytes are hexadecimal digits.
+/// Whether all bytes are hexadecimal digits. Every byte is looked at: to stop at the first that is none would take a branch at each
+/// digit, and in a key no branch can be guessed.
 fn all_digits(bytes: &[u8]) -> bool
     ensures { result ≡ all_hex bytes.now }
 {
-    bytes.iter().all(u8::is_ascii_hexdigit)
+    bytes
+        .iter()
+        .fold(true, |all, byte| all & byte.is_ascii_hexdigit())
 }
 
 /// The value of a digit.
