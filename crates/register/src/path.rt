@@ -10,14 +10,4 @@ pub struct SheetPath {
     ghost fits: { len ≤ 40 },
 }
 
-/// No path: what stands in memory that is not in use yet.
-impl Default for SheetPath {
-    fn default() -> SheetPath {
-        SheetPath {
-            bytes: [0; 40],
-            len: 0,
-        }
-    }
-}
-
 mod bytes;

@@ -1,5 +1,5 @@
 //! A sheet's path from its bytes, and back.
-ghost use Rattle.std.specs.Prelude.{◌≡◌, ◌≤◌, length};
+ghost use Rattle.std.specs.Prelude.{◌≡◌, ◌≤◌, [], length};
 ghost use Rattle.std.specs.Cmp.{on_equiv, on_per, partial_equiv_from_equiv};
 ghost use Rattle.std.specs.Cmp.Lexicographic.{nat_list_eq_equiv};
 ghost use Rattle.std.specs.Option.{option_map};
@@ -27,6 +27,18 @@ impl SheetPath {
         ensures fits { length result.now ≤ 40 }
     {
         &self.bytes[..self.len]
+    }
+}
+
+/// No path: what stands in memory that is not in use yet.
+impl Default for SheetPath {
+    ghost is_default = { λ p. path_of p ≡ [] };
+
+    fn default() -> SheetPath {
+        SheetPath {
+            bytes: [0; 40],
+            len: 0,
+        }
     }
 }
 
