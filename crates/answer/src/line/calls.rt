@@ -1,5 +1,5 @@
 //! Writing an output line.
-ghost use Rattle.std.specs.Prelude.{◌≡◌, ◌+◌, ◌≤◌, [], ◌++◌, length, take, decimal};
+ghost use Rattle.std.specs.Prelude.{◌≡◌, ◌+◌, ◌≤◌, [], ◌++◌, length, take, drop, decimal};
 ghost use Rattle.answer.specs.Written.{line_for, told};
 ghost use Rattle.answer.specs.Lines.{text_of};
 
@@ -10,7 +10,8 @@ use notation::decimal;
 /// Lays bytes into a buffer, from the place `at` on.
 fn put(buffer: &mut [u8], at: usize, bytes: &[u8])
     requires { at + length bytes.now ≤ length buffer.old }
-    ensures { take (at + length bytes.now) buffer.new ≡ take at buffer.old ++ bytes.now }
+    ensures front { take (at + length bytes.now) buffer.new ≡ take at buffer.old ++ bytes.now }
+    ensures behind { drop (at + length bytes.now) buffer.new ≡ drop (at + length bytes.now) buffer.old }
 {
     buffer[at..at + bytes.len()].copy_from_slice(bytes);
 }

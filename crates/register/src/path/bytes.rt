@@ -42,7 +42,7 @@ impl Default for SheetPath {
     }
 }
 
-// Of the bytes in use alone: those behind them mean nothing.
+// Of the bytes in use alone: those behind them are zero.
 impl PartialEq for SheetPath {
     ghost eq = { λ a b. bytes_eq (path_of a) (path_of b) };
 
